@@ -1,0 +1,4 @@
+pub mod Lists
+pub mod Buffers
+pub mod Ends
+pub mod Laws

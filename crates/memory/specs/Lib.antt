@@ -1,0 +1,6 @@
+pub mod Bytes
+pub mod Protected
+pub mod Soundness
+pub mod Flat
+pub mod Paired
+pub mod Frames
