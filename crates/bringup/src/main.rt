@@ -1,4 +1,7 @@
-//! A tour of the translation unit as far as it is built: what a protected memory is.
+//! A tour of the translation unit as far as it is built: what a protected memory is, and one access.
+mod nested;
+mod words;
+
 use memory::flat::Flat;
 use memory::flat::FlatMemory;
 use memory::paired::Paired;
@@ -160,7 +163,19 @@ fn tour(rt: &(impl Print + Alloc<A = Global>)) -> Result<(), AnyError> {
     } else {
         println!(rt, "What was declined has changed the buffers.")?;
     }
-    Ok(())
+    tell_tables(rt, rt.alloc())
+}
+
+// Tells accesses through tables in a memory of eight frames.
+fn tell_tables(rt: &impl Print, heap: Global) -> Result<(), AnyError> {
+    println!(rt, "Now eight frames, with tables in them.")?;
+    let mut bytes = vec![in heap; 0u8; 32768]?;
+    let mut marks = vec![in heap; 0u8; 8]?;
+    let mut memory = Flat {
+        bytes: bytes.as_mut_slice(),
+        marks: marks.as_mut_slice(),
+    };
+    nested::tell_nested(rt, &mut memory)
 }
 
 // Tells what the caller finds in its own buffers.

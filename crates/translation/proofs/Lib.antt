@@ -1,0 +1,5 @@
+pub mod Walks
+pub mod Parts
+pub mod Isolation
+pub mod Accesses
+pub mod Counts

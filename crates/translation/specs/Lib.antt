@@ -1,0 +1,10 @@
+pub mod Fields
+pub mod Fault
+pub mod Tables
+pub mod Widths
+pub mod Program
+pub mod Route
+pub mod Request
+pub mod Access
+pub mod Alike
+pub mod Isolation
