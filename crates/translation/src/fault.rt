@@ -12,7 +12,7 @@ pub enum Kind {
 }
 
 impl Kind {
-    pub fn is_fetch(self) -> bool
+    pub(crate) fn is_fetch(self) -> bool
         ensures { λ r. ⌜ r ≡ is-fetch self ⌝ }
     {
         match self {
@@ -21,7 +21,7 @@ impl Kind {
         }
     }
 
-    pub fn is_store(self) -> bool
+    pub(crate) fn is_store(self) -> bool
         ensures { λ r. ⌜ r ≡ is-store self ⌝ }
     {
         match self {
@@ -208,7 +208,14 @@ impl Setting {
     }
 
     /// The fault that arises at a site.
-    pub fn fault(&self, site: Site, layer: Layer, cause: Cause, real: u64, count: u64) -> Fault
+    pub(crate) fn fault(
+        &self,
+        site: Site,
+        layer: Layer,
+        cause: Cause,
+        real: u64,
+        count: u64,
+    ) -> Fault
         ensures { λ r. ⌜ r ≡ fault-at (now (self .entry)) site layer cause real count ⌝ }
     {
         Fault {
@@ -226,7 +233,7 @@ impl Setting {
     }
 
     /// A check's answer, with its cause made a fault of this site.
-    pub fn check<A>(
+    pub(crate) fn check<A>(
         &self,
         site: Site,
         layer: Layer,

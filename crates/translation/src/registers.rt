@@ -56,7 +56,7 @@ pub enum Route {
 
 impl Context {
     /// The effective address: SF = 0 clears its upper half.
-    pub fn effective(&self, address: u64) -> u64
+    pub(crate) fn effective(&self, address: u64) -> u64
         ensures { λ r. ⌜ r ≡ effective (now (self .entry)) address ⌝ }
     {
         if self.sf {
@@ -119,7 +119,7 @@ impl Registers {
     }
 
     /// Which tables an effective address goes through.
-    pub fn route(&self, context: &Context, kind: Kind, ea: u64) -> Route
+    pub(crate) fn route(&self, context: &Context, kind: Kind, ea: u64) -> Route
         ensures { λ r. ⌜ r ≡ route-of (now (self .entry)) (now (context .entry)) kind ea ⌝ }
     {
         if context.relocated(kind) {
@@ -152,7 +152,7 @@ impl Registers {
     }
 
     /// What stays the same over one access.
-    pub fn setting(&self, context: &Context, kind: Kind, ea: u64, lpid: u64) -> Setting
+    pub(crate) fn setting(&self, context: &Context, kind: Kind, ea: u64, lpid: u64) -> Setting
         ensures value { λ r. ⌜ r ≡ setting-of (now (self .entry)) (now (context .entry)) kind ea lpid ⌝ }
         ensures good { λ r. ⌜ Good-setting r ⌝ }
     {
@@ -169,7 +169,7 @@ impl Registers {
 
 impl Route {
     /// The partition under which it runs; 0 for real addresses.
-    pub fn lpid(&self) -> u64
+    pub(crate) fn lpid(&self) -> u64
         ensures { λ r. ⌜ r ≡ lpid-of (now (self .entry)) ⌝ }
     {
         match self {

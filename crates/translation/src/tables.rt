@@ -234,7 +234,7 @@ pub fn process_tree(descriptor: u64, offset: u64) -> Result<Table, Cause>
 
 impl Kind {
     /// Whether a leaf's access authority allows this.
-    pub fn allowed(self, v: u64) -> bool
+    pub(crate) fn allowed(self, v: u64) -> bool
         ensures { λ r. ⌜ r ≡ allows self v ⌝ }
     {
         match self {
@@ -245,7 +245,7 @@ impl Kind {
     }
 
     /// The bits that this sets in a leaf: R, and C for a store.
-    pub fn bits(self) -> u64
+    pub(crate) fn bits(self) -> u64
         ensures { λ r. ⌜ r ≡ settling-bits self ⌝ }
     {
         match self {
@@ -255,7 +255,7 @@ impl Kind {
     }
 
     /// Whether those bits stand in a leaf.
-    pub fn settled(self, v: u64) -> bool
+    pub(crate) fn settled(self, v: u64) -> bool
         ensures { λ r. ⌜ r ≡ is-settled self v ⌝ }
     {
         match self {

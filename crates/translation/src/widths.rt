@@ -38,7 +38,7 @@ impl Unaskable {
 
 impl Width {
     /// The width of a number of bytes.
-    pub fn new(bytes: u64) -> Result<Width, Unaskable>
+    pub(crate) fn new(bytes: u64) -> Result<Width, Unaskable>
         ensures { λ r. ⌜ r ≡ width-of bytes ⌝ }
     {
         match bytes {
@@ -51,7 +51,7 @@ impl Width {
     }
 
     /// Whether a value fits: it is below 2^(8 × width).
-    pub fn fits(self, value: u64) -> bool
+    pub(crate) fn fits(self, value: u64) -> bool
         ensures { λ r. ⌜ r ≡ does-fit self value ⌝ }
     {
         match self {
@@ -63,7 +63,7 @@ impl Width {
     }
 
     /// The number of bytes.
-    pub fn bytes(self) -> u64
+    pub(crate) fn bytes(self) -> u64
         ensures { λ r. ⌜ r ≡ bytes-of self ⌝ }
     {
         match self {
@@ -84,7 +84,7 @@ fn above(bytes: u64, offset: u64) -> u64
 }
 
 /// The datum at an offset in a doubleword.
-pub fn part(width: Width, offset: u64, v: u64) -> u64
+pub(crate) fn part(width: Width, offset: u64, v: u64) -> u64
     requires { ⌜ bytes-of width + offset ≤ 8 ⌝ }
     ensures { λ r. ⌜ r ≡ part-of (bytes-of width) offset v ⌝ }
 {
@@ -95,7 +95,7 @@ pub fn part(width: Width, offset: u64, v: u64) -> u64
 }
 
 /// The doubleword with another datum there.
-pub fn merged(width: Width, offset: u64, v: u64, x: u64) -> u64
+pub(crate) fn merged(width: Width, offset: u64, v: u64, x: u64) -> u64
     requires place { ⌜ bytes-of width + offset ≤ 8 ⌝ }
     requires fits { ⌜ x < 2 ^ (8 * bytes-of width) ⌝ }
     ensures { λ r. ⌜ r ≡ merged-of (bytes-of width) offset v x ⌝ }

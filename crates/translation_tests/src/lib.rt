@@ -18,6 +18,10 @@ use translation::widths::UnaskablePartialEq;
 #[cfg(test)]
 mod deep_tests;
 #[cfg(test)]
+mod fault_tests;
+#[cfg(test)]
+mod leaf_tests;
+#[cfg(test)]
 mod operand_tests;
 #[cfg(test)]
 mod reference_tests;
