@@ -1,4 +1,6 @@
 //! A tour of the translation unit as far as it is built: what a protected memory is, and one access.
+#![tactic(auto)]
+
 mod nested;
 mod words;
 

@@ -1,5 +1,7 @@
 //! One bring-up task on a machine, from start to end, told in plain sentences; and then the same calls on two machines
 //! that differ in a secret.
+#![tactic(auto)]
+
 mod contexts;
 mod tables;
 mod task;

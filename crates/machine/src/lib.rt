@@ -2,6 +2,8 @@
 //! protected memory.
 //!
 //! `setup` has the registers, `machine` the calls one by one, `run` whole lists of them.
+#![tactic(auto)]
+
 pub mod calls;
 mod context;
 pub mod machine;

@@ -1,5 +1,7 @@
 //! Tests of the machine: its setup, its calls one by one, and lists of them. Expected values are worked out by hand from
 //! the rules.
+#![tactic(auto)]
+
 use machine::calls::{Answer, Call};
 use machine::machine::Machine;
 use machine::refusal::{Refusal, Stop};

@@ -1,12 +1,12 @@
 -- What the calls of a flat memory leave. Assumes nothing.
-use Rattle.std.proofs.Common.{◌≡◌, ℕ, zero, suc, ◌+◌, ◌*◌, ◌%◌, ◌<◌, ◌≤◌, true, cond, eqb, ltb, List, [], ◌∷◌, map, length, get_or, take, drop, set, sym, refl, ap, ◌∙◌, inl, inr, mod-eq_of_lt, arith, length-set, length-take, drop-set-lt}
+use Rattle.std.proofs.Common.{◌≡◌, ℕ, zero, suc, ◌+◌, ◌*◌, ◌%◌, ◌<◌, ◌≤◌, true, eqb, ltb, List, [], ◌∷◌, map, length, get_or, take, drop, set, sym, refl, ap, ◌∙◌, inl, inr, mod-eq_of_lt, arith, length-set, length-take, drop-set-lt}
 use lib.Seq.{take-set-lt}
 use Rattle.std.proofs.lemmas.List.{map-set, get_or-map, get_or-take, get_or-set_same, get_or-set_other}
 use Rattle.std.proofs.lemmas.Bool.{cond-true, and_parts, eqb-true, ltb-true, cases_eq}
 use Rattle.memory.specs.declared.protected.Mark.{Mark}
 use Rattle.memory.specs.declared.protected.Mark.TheVariants.{Ordinary, Secure}
 use Rattle.memory.specs.Bytes.{Octets, number_at, octets, over}
-use Rattle.memory.specs.Protected.{Meaning, size_of, frames_of, lies_below, holds, has_frame, written, marked, number_of}
+use Rattle.memory.specs.Protected.{size_of, frames_of, lies_below, holds, has_frame, written, marked, number_of}
 use Rattle.memory.specs.Flat.{covered, flat, as_octets, mark_of, Keeps, flat_frames, flat_size}
 use Rattle.memory.proofs.Lists.{length_over, take_over, drop_over, length_octets, octets_octets, number_take}
 

@@ -1,12 +1,12 @@
 -- A call on two memories end to end is a call on one of them. Assumes nothing.
-use Rattle.std.proofs.Common.{◌≡◌, ℕ, ◌+◌, ◌-◌, ◌*◌, ◌%◌, ◌<◌, ◌≤◌, min, Bool, true, false, cond, ◌&&◌, eqb, ltb, leb, ◌⊎◌, List, ◌++◌, length, get_or, take, drop, set, Some, None, Ok, Err, Option, sym, refl, ap, ◌∙◌, subst, inl, inr, arith, length-append, length-take, drop-set-lt, MatchOption}
+use Rattle.std.proofs.Common.{◌≡◌, ℕ, ◌+◌, ◌-◌, ◌%◌, ◌<◌, ◌≤◌, min, Bool, true, false, cond, ◌&&◌, eqb, ltb, leb, ◌⊎◌, List, ◌++◌, length, get_or, take, drop, set, Some, None, Ok, Option, sym, refl, ap, ◌∙◌, subst, inl, inr, arith, length-append, length-take, drop-set-lt, MatchOption}
 use lib.Seq.{take-set-lt}
 use Rattle.std.proofs.lemmas.List.{get_or-take, get_or_append_left, get_or-append_right, set-append_left, set-append_right}
-use Rattle.std.proofs.lemmas.Bool.{lt-ltb, le-ltb, ltb-true, ltb-false, leb-true, leb-false, and_parts, and_cases, eqb-true, cases_lt}
+use Rattle.std.proofs.lemmas.Bool.{lt-ltb, le-ltb, ltb-true, ltb-false, leb-true, leb-false, and_parts, eqb-true, cases_lt}
 use Rattle.memory.specs.declared.protected.Mark.{Mark}
 use Rattle.memory.specs.declared.protected.Mark.TheVariants.{Ordinary}
 use Rattle.memory.specs.Bytes.{number_at, octets, over}
-use Rattle.memory.specs.Protected.{Meaning, declined, lies_below, stored}
+use Rattle.memory.specs.Protected.{Meaning, lies_below, stored}
 use Rattle.memory.specs.Soundness.{Sound}
 use Rattle.memory.specs.Paired.{joined, beyond, in_second, GoesFirst, GoesSecond, FrameGoesFirst, FrameGoesSecond}
 use Rattle.memory.proofs.Lists.{take_over, drop_over, over_left, over_right, number_take, number_left, number_right, length_octets}

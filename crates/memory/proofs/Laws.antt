@@ -1,8 +1,7 @@
 -- Laws of a memory's meaning, for whoever builds on it. Assumes nothing.
-use Rattle.std.proofs.Common.{◌≡◌, ℕ, zero, suc, ◌+◌, ◌-◌, ◌*◌, ◌/◌, ◌%◌, ◌^◌, ◌<◌, ◌≤◌, Bool, true, false, cond, ◌&&◌, eqb, ltb, ◌≢◌, ◌⊎◌, List, [], ◌∷◌, length, get_or, take, drop, set, replicate, Ok, Err, Result, sym, refl, ap, ◌∙◌, inl, inr, add-zero, add_assoc, arith, lit<, length-set}
-use lib.ListN.{length-replicate}
+use Rattle.std.proofs.Common.{◌≡◌, ℕ, ◌+◌, ◌*◌, ◌%◌, ◌^◌, ◌<◌, ◌≤◌, Bool, true, false, cond, eqb, ltb, ◌⊎◌, length, get_or, take, drop, set, replicate, Ok, Err, sym, refl, ap, ◌∙◌, inl, inr, arith, length-set}
 use Rattle.std.proofs.lemmas.List.{drop-drop}
-use Rattle.std.proofs.lemmas.Bool.{cond-true, cond-false, cases_Bool, cases_lt, and_parts, eqb-true, ltb-true}
+use Rattle.std.proofs.lemmas.Bool.{cond-true, cond-false, cases_Bool, cases_lt, and_parts, eqb-true}
 use Rattle.memory.specs.declared.protected.Mark.{Mark}
 use Rattle.memory.specs.Bytes.{Octets, spell, octets, number_at, over}
 use Rattle.memory.specs.Protected.{Meaning, size_of, frames_of, declined, lies_below, holds, has_frame, read_at, written, marked, zeroed, stored}

@@ -1,5 +1,5 @@
 -- What the flat memory means over its two buffers. Assumes nothing.
-use Rattle.std.specs.Prelude.{◌≡◌, ℕ, zero, suc, ◌+◌, ◌*◌, ◌/◌, ◌%◌, ◌<◌, ◌≤◌, min, Bool, cond, List, [], ◌∷◌, map, length, take, drop, ◌==◌, slice_index, slice_set, refl}
+use Rattle.std.specs.Prelude.{◌≡◌, ℕ, zero, suc, ◌*◌, ◌/◌, ◌%◌, ◌<◌, ◌≤◌, min, Bool, cond, List, [], ◌∷◌, map, length, take, drop, ◌==◌, slice_index, slice_set, refl}
 use Rattle.std.proofs.Common.{sym, ap, ◌∙◌, arith, mod-lt, lit<, length-take}
 use Rattle.std.proofs.lemmas.List.{length-map}
 use Rattle.memory.specs.Bytes.{Octets, octets_take}

@@ -1,5 +1,5 @@
 -- The frame that an address lies in. Assumes nothing.
-use Rattle.std.specs.Prelude.{ℕ, ◌+◌, ◌*◌, ◌/◌, List, take, drop, slice_index_or}
+use Rattle.std.specs.Prelude.{ℕ, ◌*◌, ◌/◌, List, take, drop, slice_index_or}
 use Rattle.memory.specs.declared.protected.Mark.{Mark}
 use Rattle.memory.specs.declared.protected.Mark.TheVariants.{Ordinary}
 use Rattle.memory.specs.Protected.{Meaning}

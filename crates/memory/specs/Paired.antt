@@ -1,5 +1,5 @@
 -- What two memories end to end mean. Assumes nothing.
-use Rattle.std.specs.Prelude.{◌≡◌, ℕ, ◌+◌, ◌-◌, ◌*◌, ◌<◌, ◌≤◌, Bool, cond, ◌&&◌, List, ◌++◌, length, take, drop, Some, None, Option, nat_le, nat_lt}
+use Rattle.std.specs.Prelude.{◌≡◌, ℕ, ◌-◌, cond, ◌&&◌, ◌++◌, take, drop, Some, None, Option, nat_le, nat_lt}
 use Rattle.std.proofs.Common.{arith, length-take, length-append}
 use Rattle.memory.specs.Bytes.{octets_take, octets_append}
 use Rattle.memory.specs.declared.protected.Mark.{Mark}

@@ -1,5 +1,5 @@
 -- What a protected memory means, and what its calls answer and leave. Assumes nothing.
-use Rattle.std.specs.Prelude.{ℕ, ◌+◌, ◌*◌, ◌/◌, ◌%◌, Bool, true, false, cond, ◌&&◌, List, length, replicate, Ok, Err, codes, Result, ◌==◌, nat_lt, slice_index_or, slice_set}
+use Rattle.std.specs.Prelude.{ℕ, ◌*◌, ◌%◌, Bool, true, false, cond, ◌&&◌, List, length, replicate, Ok, Err, codes, Result, ◌==◌, nat_lt, slice_index_or, slice_set}
 use Rattle.memory.specs.declared.protected.Mark.{Mark}
 use Rattle.memory.specs.declared.protected.Mark.TheVariants.{Ordinary, Secure}
 use Rattle.memory.specs.declared.protected.Declined.{Declined}

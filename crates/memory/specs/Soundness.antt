@@ -1,5 +1,5 @@
 -- What every protected memory shows of its meaning. Assumes nothing.
-use Rattle.std.specs.Prelude.{◌≡◌, ℕ, ◌+◌, ◌*◌, ◌<◌, ◌≤◌, length, get_or}
+use Rattle.std.specs.Prelude.{◌≡◌, ◌*◌, ◌≤◌, length}
 use Rattle.memory.specs.Bytes.{Octets}
 use Rattle.memory.specs.Protected.{Meaning}
 

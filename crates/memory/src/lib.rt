@@ -2,6 +2,8 @@
 //!
 //! `protected` says what every protected memory is, `flat` and `paired` are the two kinds, and `zeroing` fills a
 //! frame with zeros over any of them.
+#![tactic(auto)]
+
 pub mod flat;
 pub mod paired;
 pub mod protected;

@@ -1,4 +1,6 @@
 //! Clients of the memory library, proved from its contracts alone, and its tests.
+#![tactic(auto)]
+
 ghost use Rattle.std.specs.Prelude.{◌≡◌, length, if◌then◌else◌, Ok, Err};
 ghost use Rattle.memory.specs.Protected.{declined, size_of, holds, has_frame, read_at, written, zeroed, stored};
 ghost use Rattle.memory.specs.Flat.{flat, restored, Keeps};

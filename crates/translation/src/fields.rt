@@ -1,6 +1,6 @@
 //! Bit fields of a doubleword; bit 0 is the most significant.
 ghost use Rattle.std.specs.Prelude.{◌≡◌, ◌^◌, ◌<◌};
-ghost use Rattle.translation.specs.Fields.{table_base, table_size, next_base, next_width, tree_size, valid as is_valid, leaf as is_IsLeaf, page_base, referenced as is_referenced, changed as is_changed, privileged as is_privileged, may_read, may_write, may_execute};
+ghost use Rattle.translation.specs.Fields.{table_base, table_size, next_base, next_width, tree_size, valid as is_valid, leaf as is_leaf, page_base, referenced as is_referenced, changed as is_changed, privileged as is_privileged, may_read, may_write, may_execute};
 
 /// A table's base, of PTCR and of a partition entry's second doubleword.
 pub fn table_base(v: u64) -> u64
@@ -46,7 +46,7 @@ pub fn valid(v: u64) -> bool
 
 /// L.
 pub fn leaf(v: u64) -> bool
-    ensures { result ≡ is_IsLeaf v }
+    ensures { result ≡ is_leaf v }
 {
     (v >> 62) % 2 == 1
 }

@@ -1,4 +1,6 @@
 //! The translation of one access: nested radix tables, reference and change bits, and the secure memory facility.
+#![tactic(auto)]
+
 pub mod access;
 mod datum;
 pub mod fault;

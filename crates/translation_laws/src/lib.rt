@@ -1,5 +1,7 @@
 //! Theorems over the definitions of an access. Each function's contract is one, and without its proof this crate is not
 //! proved.
+#![tactic(auto)]
+
 ghost use Rattle.translation_laws.specs.Table.{ReferenceTable};
 ghost use Rattle.translation_laws.specs.Unguarded.{GuardsIdle};
 

@@ -1,4 +1,6 @@
 //! Tests of one access, over the reference tables and deeper ones, with values worked out by hand from the rules.
+#![tactic(auto)]
+
 use memory::protected::{Declined, ProtectedMemory};
 use translation::access::{fetch, load, store};
 use translation::fault::Fault;

@@ -1,4 +1,4 @@
-use Rattle.std.proofs.Common.{◌≡◌, ℕ, ◌+◌, ◌*◌, List, get_or, sym, ap, ◌∙◌, rules}
+use Rattle.std.proofs.Common.{ℕ, ◌+◌, ◌*◌, List, get_or, sym, ap, ◌∙◌, rules}
 use Rattle.memory.specs.Bytes.{spell, number_at}
 use Rattle.memory.proofs.Lists.{part_eight, spell_eight}
 use Rattle.memory.proofs.flat.doubleword.Goals as goal
@@ -11,6 +11,6 @@ pub returns : goal.returns
 unfolding number_at given
 returns c =
     record {
-      value = c.from-be-bytes.ensures ∙ ap given c.eight.ensures ∙ spell_eight _ _ _ _ _ _ _ _ ∙ ap (spell 0) (sym (part_eight c.args.bytes.now c.args.at c.requires));
+      value = c.from_be_bytes.ensures ∙ ap given c.eight.ensures ∙ spell_eight _ _ _ _ _ _ _ _ ∙ ap (spell 0) (sym (part_eight c.args.bytes.now c.args.at c.requires));
       octets = search rules;
     }

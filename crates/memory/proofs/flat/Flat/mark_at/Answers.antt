@@ -6,4 +6,4 @@ pub bounds-self-frame : goal.bounds-self-frame
 bounds-self-frame c = frame_inside c.args.self.now.bytes.now c.args.self.now.marks.now c.args.frame c.requires
 
 pub returns : goal.returns
-returns c = c.mark-of.ensures ∙ sym (flat_mark c.args.self.now.bytes.now c.args.self.now.marks.now c.args.frame c.requires)
+returns c = c.mark_of.ensures ∙ sym (flat_mark c.args.self.now.bytes.now c.args.self.now.marks.now c.args.frame c.requires)

@@ -8,4 +8,4 @@ returns g c =
     let a = c.args.self.now.first in
     let b = c.args.self.now.second in
     frame_goes (g.A.ProtectedMemory.meaning a) (g.B.ProtectedMemory.meaning b) (g.A.ProtectedMemory.sound a) (g.B.ProtectedMemory.sound b) c.args.frame _
-    (c.second-place.ensures ∙ ap (λ n. in_second c.args.frame n 268435456) c.frames.ensures)
+    (c.second_place.ensures ∙ ap (λ n. in_second c.args.frame n 268435456) c.frames.ensures)

@@ -5,7 +5,7 @@ use Rattle.memory.proofs.paired.PairedProtectedMemory.set_mark.Goals as goal
 pub returns-in-Some : goal.returns-in-Some
 returns-in-Some g c =
     let goes = c.in-Some.ensures in
-    let call = c.set-mark.ensures in
+    let call = c.set_mark.ensures in
     record {
       answer = call.answer ∙ ap answered (sym goes.test);
       after = goes.marks c.args.mark _ call.after;
@@ -15,7 +15,7 @@ returns-in-Some g c =
 pub returns-in-None : goal.returns-in-None
 returns-in-None g c =
     let goes = c.in-None.ensures in
-    let call = c.set-mark-in-None.ensures in
+    let call = c.set_mark-in-None.ensures in
     record {
       answer = call.answer ∙ ap answered (sym goes.test);
       after = goes.marks c.args.mark _ call.after;
