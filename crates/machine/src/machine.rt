@@ -52,8 +52,8 @@ fn remark<M: ProtectedMemory>(memory: &mut M, frame: u64, mark: Mark)
 impl<M: ProtectedMemory> Machine<M> {
     /// Changes a thread's context, and erases its fault record if S changes.
     pub fn enter(&mut self, thread: u64, context: Context) -> Result<(), Refusal>
-        ensures steps { Steps (state_of meaning self.old) (Enter thread context) (Done result) (state_of meaning self.new) }
-        ensures keeps { keeps self.old.memory self.new.memory }
+        ensures steps { Steps (state_of M.meaning self.old) (Enter thread context) (Done result) (state_of M.meaning self.new) }
+        ensures keeps { M.keeps self.old.memory self.new.memory }
     {
         let before = self.threads.get(thread)?;
         if !allowed(&self.setup.registers, &context) {
@@ -89,8 +89,8 @@ impl<M: ProtectedMemory> Machine<M> {
         base: u64,
         index: u64,
     ) -> Result<(u64, u64, u64), Stop>
-        ensures steps { Steps (state_of meaning self.old) (Load thread width base index) (Loaded result) (state_of meaning self.new) }
-        ensures keeps { keeps self.old.memory self.new.memory }
+        ensures steps { Steps (state_of M.meaning self.old) (Load thread width base index) (Loaded result) (state_of M.meaning self.new) }
+        ensures keeps { M.keeps self.old.memory self.new.memory }
     {
         let context = self.threads.get(thread)?.context;
         let operand = Operand::new(width, base, index)?;
@@ -107,8 +107,8 @@ impl<M: ProtectedMemory> Machine<M> {
         index: u64,
         value: u64,
     ) -> Result<(u64, u64), Stop>
-        ensures steps { Steps (state_of meaning self.old) (Store thread width base index value) (Stored result) (state_of meaning self.new) }
-        ensures keeps { keeps self.old.memory self.new.memory }
+        ensures steps { Steps (state_of M.meaning self.old) (Store thread width base index value) (Stored result) (state_of M.meaning self.new) }
+        ensures keeps { M.keeps self.old.memory self.new.memory }
     {
         let context = self.threads.get(thread)?.context;
         let stored = Operand::new(width, base, index)?.with_value(value)?;
@@ -118,8 +118,8 @@ impl<M: ProtectedMemory> Machine<M> {
 
     /// Fetches an instruction at base plus index: its four bytes, the real address and the count.
     pub fn fetch(&mut self, thread: u64, base: u64, index: u64) -> Result<(u64, u64, u64), Stop>
-        ensures steps { Steps (state_of meaning self.old) (Fetch thread base index) (Loaded result) (state_of meaning self.new) }
-        ensures keeps { keeps self.old.memory self.new.memory }
+        ensures steps { Steps (state_of M.meaning self.old) (Fetch thread base index) (Loaded result) (state_of M.meaning self.new) }
+        ensures keeps { M.keeps self.old.memory self.new.memory }
     {
         let context = self.threads.get(thread)?.context;
         let instruction = Instruction::new(base, index)?;
@@ -134,8 +134,8 @@ impl<M: ProtectedMemory> Machine<M> {
 
     /// Marks a frame, for an ultravisor. A frame that turns from secure to ordinary is filled with zeros first.
     pub fn mark(&mut self, thread: u64, frame: u64, mark: Mark) -> Result<(), Refusal>
-        ensures steps { Steps (state_of meaning self.old) (Marks thread frame mark) (Done result) (state_of meaning self.new) }
-        ensures keeps { keeps self.old.memory self.new.memory }
+        ensures steps { Steps (state_of M.meaning self.old) (Marks thread frame mark) (Done result) (state_of M.meaning self.new) }
+        ensures keeps { M.keeps self.old.memory self.new.memory }
     {
         let context = self.threads.get(thread)?.context;
         if !is_ultravisor(&context) {
@@ -150,7 +150,7 @@ impl<M: ProtectedMemory> Machine<M> {
 
     /// A thread's fault record, or none.
     pub fn report(&self, thread: u64) -> Result<Option<Fault>, Refusal>
-        ensures { Steps (state_of meaning self.now) (Report thread) (Reported result) (state_of meaning self.now) }
+        ensures { Steps (state_of M.meaning self.now) (Report thread) (Reported result) (state_of M.meaning self.now) }
     {
         Ok(self.threads.get(thread)?.fault)
     }

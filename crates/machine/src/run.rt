@@ -13,8 +13,8 @@ use std::alloc::{AllocError, Global};
 impl<M: ProtectedMemory> Machine<M> {
     /// Makes one call.
     pub fn call(&mut self, call: Call) -> Answer
-        ensures steps { Steps (state_of meaning self.old) call result (state_of meaning self.new) }
-        ensures keeps { keeps self.old.memory self.new.memory }
+        ensures steps { Steps (state_of M.meaning self.old) call result (state_of M.meaning self.new) }
+        ensures keeps { M.keeps self.old.memory self.new.memory }
     {
         match call {
             Call::Enter { thread, context } => Answer::Done(self.enter(thread, context)),
@@ -48,10 +48,10 @@ impl<M: ProtectedMemory> Machine<M> {
     /// Makes a list of calls, and answers each. Where memory for the answers is wanting, nothing has changed.
     pub fn run(&mut self, heap: Global, calls: &[Call]) -> Result<Vec<Answer>, AllocError>
         ensures runs { MatchResult result
-            (λ v. Ran (state_of meaning self.old) calls.now v.items (state_of meaning self.new))
-            (λ _. state_of meaning self.new ≡ state_of meaning self.old) }
-        ensures isolated { Isolated (state_of meaning self.old) calls.now }
-        ensures keeps { keeps self.old.memory self.new.memory }
+            (λ v. Ran (state_of M.meaning self.old) calls.now v.items (state_of M.meaning self.new))
+            (λ _. state_of M.meaning self.new ≡ state_of M.meaning self.old) }
+        ensures isolated { Isolated (state_of M.meaning self.old) calls.now }
+        ensures keeps { M.keeps self.old.memory self.new.memory }
     {
         let mut answers = Vec::with_capacity(heap, calls.len())?;
         for call in calls {

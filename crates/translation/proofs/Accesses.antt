@@ -1,12 +1,12 @@
 -- An access of an ordinary thread is isolated. Assumes nothing.
-use Rattle.std.proofs.Common.{◌≡◌, ℕ, ◌%◌, true, refl, arith}
+use Rattle.std.proofs.Common.{◌≡◌, ℕ, ◌%◌, refl, arith}
 use Rattle.memory.specs.Protected.{Meaning, size_of}
 use Rattle.translation.specs.declared.registers.Registers.{Registers}
 use Rattle.translation.specs.declared.registers.Context.{Context}
 use Rattle.translation.specs.declared.datum.Ask.{Ask}
 use Rattle.translation.specs.Fields.{table_base}
 use Rattle.translation.specs.Program.{state}
-use Rattle.translation.specs.Route.{effective, route_of, confined}
+use Rattle.translation.specs.Route.{effective, route_of}
 use Rattle.translation.specs.Access.{kind_of, access_by, accessed}
 use Rattle.translation.specs.Isolation.{Isolated, setting_for}
 use Rattle.translation.proofs.Isolation.{isolated, kept, marks_stay, size_stays}

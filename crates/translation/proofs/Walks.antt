@@ -1,5 +1,5 @@
 -- One turn of a walk. Assumes nothing.
-use Rattle.std.proofs.Common.{◌≡◌, ℕ, zero, suc, ◌+◌, ◌-◌, ◌<◌, ap, arith}
+use Rattle.std.proofs.Common.{◌≡◌, ℕ, suc, ◌+◌, ◌-◌, ◌<◌, ap, arith}
 use Rattle.translation.specs.declared.fault.Purpose.{Purpose}
 use Rattle.translation.specs.declared.fault.Layer.{Layer}
 use Rattle.translation.specs.declared.tables.Table.{Table}

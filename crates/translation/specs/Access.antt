@@ -1,17 +1,16 @@
 -- One access, step by step. Assumes nothing.
-use Rattle.std.specs.Prelude.{ℕ, zero, suc, ◌+◌, ◌-◌, ◌*◌, ◌/◌, ◌%◌, ◌^◌, ◌<◌, ◌≤◌, Bool, true, false, cond, not, ◌&&◌, eqb, Some, None, Ok, Err, Option, Result}
+use Rattle.std.specs.Prelude.{ℕ, zero, suc, ◌+◌, ◌%◌, ◌≤◌, Bool, true, false, cond, Some, None, Ok, Err, Result}
 use Rattle.translation.specs.declared.fault.Kind.{Kind}
 use Rattle.translation.specs.declared.fault.Kind.TheVariants.{Load, Store, Fetch}
 use Rattle.translation.specs.declared.fault.Cause.TheVariants.{Segment, Unsupported, Invalid}
 use Rattle.translation.specs.declared.fault.Layer.{Layer}
 use Rattle.translation.specs.declared.fault.Layer.TheVariants.{Process, Partition}
 use Rattle.translation.specs.declared.fault.Purpose.{Purpose}
-use Rattle.translation.specs.declared.fault.Purpose.TheVariants.{Datum, PartitionEntry, ProcessEntry, ProcessTree, Settling}
+use Rattle.translation.specs.declared.fault.Purpose.TheVariants.{Datum, ProcessEntry, ProcessTree, Settling}
 use Rattle.translation.specs.declared.fault.Fault.{Fault}
 use Rattle.translation.specs.declared.fault.Site.{Site}
 use Rattle.translation.specs.declared.tables.Table.{Table}
 use Rattle.translation.specs.declared.tables.Leaf.{Leaf}
-use Rattle.translation.specs.declared.tables.Step.{Step}
 use Rattle.translation.specs.declared.tables.Step.TheVariants.{Next, Found}
 use Rattle.translation.specs.declared.tables.Scope.{Scope}
 use Rattle.translation.specs.declared.tables.Scope.TheVariants.{Real, Guest}

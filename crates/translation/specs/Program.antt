@@ -1,5 +1,5 @@
 -- An access is a program of questions to the memory. `run` asks them, and nothing else touches the memory. Assumes nothing.
-use Rattle.std.specs.Prelude.{◌≡◌, ℕ, ◌+◌, ◌*◌, ◌/◌, ◌^◌, ◌<◌, Bool, true, false, cond, not, ◌&&◌, Some, None, Ok, Err, Option, Result, bit_or, nat_lt, slice_index_or}
+use Rattle.std.specs.Prelude.{◌≡◌, ℕ, ◌+◌, ◌*◌, ◌/◌, ◌^◌, ◌<◌, Bool, false, cond, not, ◌&&◌, Some, None, Ok, Err, Option, Result, bit_or, nat_lt, slice_index_or}
 use Rattle.memory.specs.declared.protected.Mark.TheVariants.{Ordinary}
 use Rattle.memory.specs.Bytes.{number_at}
 use Rattle.memory.specs.Protected.{Meaning, size_of, holds, has_frame, is_secure, written}
@@ -8,7 +8,6 @@ use Rattle.translation.specs.declared.fault.Cause.{Cause}
 use Rattle.translation.specs.declared.fault.Cause.TheVariants.{Index, Secure, Beyond}
 use Rattle.translation.specs.declared.fault.Layer.{Layer}
 use Rattle.translation.specs.declared.fault.Layer.TheVariants.{Partition, Storage}
-use Rattle.translation.specs.declared.fault.Purpose.{Purpose}
 use Rattle.translation.specs.declared.fault.Purpose.TheVariants.{PartitionEntry}
 use Rattle.translation.specs.declared.fault.Fault.{Fault}
 use Rattle.translation.specs.declared.fault.Setting.{Setting}

@@ -1,5 +1,5 @@
 -- What can be asked of a datum. Assumes nothing.
-use Rattle.std.specs.Prelude.{ℕ, ◌+◌, ◌*◌, ◌%◌, ◌^◌, ◌<◌, ◌≤◌}
+use Rattle.std.specs.Prelude.{◌+◌, ◌*◌, ◌%◌, ◌^◌, ◌<◌, ◌≤◌}
 use Rattle.translation.specs.declared.fault.Setting.{Setting}
 use Rattle.translation.specs.declared.widths.Width.{Width}
 use Rattle.translation.specs.declared.datum.Ask.{Ask}

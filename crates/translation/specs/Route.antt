@@ -1,5 +1,5 @@
 -- The effective address, and which tables it goes through. Assumes nothing.
-use Rattle.std.specs.Prelude.{ℕ, ◌+◌, ◌*◌, ◌/◌, ◌%◌, ◌^◌, Bool, cond, not, ◌&&◌, ◌==◌, bit_or}
+use Rattle.std.specs.Prelude.{ℕ, ◌+◌, ◌*◌, ◌%◌, ◌^◌, Bool, cond, not, ◌&&◌, ◌==◌, bit_or}
 use Rattle.translation.specs.declared.fault.Kind.{Kind}
 use Rattle.translation.specs.declared.fault.Setting.{Setting}
 use Rattle.translation.specs.declared.registers.Registers.{Registers}

@@ -1,5 +1,5 @@
 -- What descriptors and entries say. Assumes nothing.
-use Rattle.std.specs.Prelude.{ℕ, ◌+◌, ◌-◌, ◌*◌, ◌/◌, ◌%◌, ◌^◌, ◌<◌, ◌≤◌, Bool, true, false, cond, not, ◌&&◌, ◌||◌, Ok, Err, Result, ◌==◌, nat_le, nat_lt}
+use Rattle.std.specs.Prelude.{ℕ, ◌+◌, ◌-◌, ◌*◌, ◌/◌, ◌%◌, ◌^◌, ◌<◌, ◌≤◌, Bool, cond, not, ◌&&◌, ◌||◌, Ok, Err, Result, ◌==◌, nat_le, nat_lt}
 use Rattle.translation.specs.declared.fault.Kind.{Kind}
 use Rattle.translation.specs.declared.fault.Kind.TheVariants.{Load, Store, Fetch}
 use Rattle.translation.specs.declared.fault.Cause.{Cause}
@@ -14,7 +14,7 @@ use Rattle.translation.specs.declared.tables.Step.TheVariants.{Next, Found}
 use Rattle.translation.specs.declared.tables.Scope.{Scope}
 use Rattle.translation.specs.declared.tables.Scope.TheVariants.{Real, Guest}
 use Rattle.translation.specs.declared.tables.Partition.{Partition}
-use Rattle.translation.specs.Fields.{bits, table_base, table_size, next_base, next_width, tree_size, valid, leaf, page_base, referenced, changed, privileged, may_read, may_write, may_execute}
+use Rattle.translation.specs.Fields.{table_base, table_size, next_base, next_width, tree_size, valid, leaf, page_base, referenced, changed, privileged, may_read, may_write, may_execute}
 
 -- a flaw stops with its cause; without it the rest follows
 abbrev pub unless : {B : Type 0} → Bool → Cause → Result B Cause → Result B Cause

@@ -27,8 +27,8 @@ fn real_access<M: ProtectedMemory>(
     addr: u64,
 ) -> Result<(u64, u64, u64), Fault>
     requires { Askable setting.now ask width }
-    ensures performs { Performs setting.now (state (meaning memory.old) 0) (real_accesses ask (bytes_of width) (setting.now.ea % 8) addr) result (state (meaning memory.new) 0) }
-    ensures keeps { keeps memory.old memory.new }
+    ensures performs { Performs setting.now (state (M.meaning memory.old) 0) (real_accesses ask (bytes_of width) (setting.now.ea % 8) addr) result (state (M.meaning memory.new) 0) }
+    ensures keeps { M.keeps memory.old memory.new }
 {
     let site = Site::new(Purpose::Datum, 0, 0);
     reach(setting, memory, 0, site, addr)?;
@@ -47,9 +47,9 @@ fn guest_access<M: ProtectedMemory>(
     requires setting { GoodSetting setting.now }
     requires ask { Askable setting.now ask width }
     requires count { count.old + 6 < 2 ^ 32 }
-    ensures performs { Performs setting.now (state (meaning memory.old) count.old) (guest_accesses setting.now.kind setting.now.lpid ask (bytes_of width) (setting.now.ea % 8) addr) result (state (meaning memory.new) count.new) }
+    ensures performs { Performs setting.now (state (M.meaning memory.old) count.old) (guest_accesses setting.now.kind setting.now.lpid ask (bytes_of width) (setting.now.ea % 8) addr) result (state (M.meaning memory.new) count.new) }
     ensures few { count.new ≤ count.old + 6 }
-    ensures keeps { keeps memory.old memory.new }
+    ensures keeps { M.keeps memory.old memory.new }
 {
     let partition = partition_entry(setting, memory, count)?;
     let reached = guest_reach(
@@ -79,9 +79,9 @@ fn process_access<M: ProtectedMemory>(
     requires setting { GoodSetting setting.now }
     requires ask { Askable setting.now ask width }
     requires count { count.old + 35 < 2 ^ 32 }
-    ensures performs { Performs setting.now (state (meaning memory.old) count.old) (process_accesses setting.now.kind setting.now.lpid pid problem ask (bytes_of width) (setting.now.ea % 8) offset) result (state (meaning memory.new) count.new) }
+    ensures performs { Performs setting.now (state (M.meaning memory.old) count.old) (process_accesses setting.now.kind setting.now.lpid pid problem ask (bytes_of width) (setting.now.ea % 8) offset) result (state (M.meaning memory.new) count.new) }
     ensures few { count.new ≤ count.old + 35 }
-    ensures keeps { keeps memory.old memory.new }
+    ensures keeps { M.keeps memory.old memory.new }
 {
     let partition = partition_entry(setting, memory, count)?;
     let descriptor = process_entry(setting, memory, count, &partition, pid)?;
@@ -120,10 +120,10 @@ fn access_by<M: ProtectedMemory>(
     requires setting { GoodSetting setting.now }
     requires lpid { setting.now.lpid ≡ lpid_of route.now }
     requires ask { Askable setting.now ask width }
-    ensures answer { result ≡ (run setting.now (state (meaning memory.old) 0) (accesses_by route.now setting.now.kind problem ask (bytes_of width) (setting.now.ea % 8))).0 }
-    ensures after { meaning memory.new ≡ (run setting.now (state (meaning memory.old) 0) (accesses_by route.now setting.now.kind problem ask (bytes_of width) (setting.now.ea % 8))).1.memory }
-    ensures few { (run setting.now (state (meaning memory.old) 0) (accesses_by route.now setting.now.kind problem ask (bytes_of width) (setting.now.ea % 8))).1.count ≤ 35 }
-    ensures keeps { keeps memory.old memory.new }
+    ensures answer { result ≡ (run setting.now (state (M.meaning memory.old) 0) (accesses_by route.now setting.now.kind problem ask (bytes_of width) (setting.now.ea % 8))).0 }
+    ensures after { M.meaning memory.new ≡ (run setting.now (state (M.meaning memory.old) 0) (accesses_by route.now setting.now.kind problem ask (bytes_of width) (setting.now.ea % 8))).1.memory }
+    ensures few { (run setting.now (state (M.meaning memory.old) 0) (accesses_by route.now setting.now.kind problem ask (bytes_of width) (setting.now.ea % 8))).1.count ≤ 35 }
+    ensures keeps { M.keeps memory.old memory.new }
 {
     let mut count = 0;
     match *route {
@@ -150,11 +150,11 @@ fn access<M: ProtectedMemory>(
 ) -> Result<(u64, u64, u64), Fault>
     requires inside { bytes_of width + address % 8 ≤ 8 }
     requires fits { Fitting ask width }
-    ensures answer { result ≡ (accessed registers.now context.now (meaning memory.old) ask (bytes_of width) address).0 }
-    ensures after { meaning memory.new ≡ (accessed registers.now context.now (meaning memory.old) ask (bytes_of width) address).1.memory }
+    ensures answer { result ≡ (accessed registers.now context.now (M.meaning memory.old) ask (bytes_of width) address).0 }
+    ensures after { M.meaning memory.new ≡ (accessed registers.now context.now (M.meaning memory.old) ask (bytes_of width) address).1.memory }
     ensures few { FewRead result }
-    ensures isolated { Isolated registers.now context.now (meaning memory.old) ask (bytes_of width) address }
-    ensures keeps { keeps memory.old memory.new }
+    ensures isolated { Isolated registers.now context.now (M.meaning memory.old) ask (bytes_of width) address }
+    ensures keeps { M.keeps memory.old memory.new }
 {
     let ea = context.effective(address);
     let kind = ask.kind();
@@ -181,11 +181,11 @@ pub fn load<M: ProtectedMemory>(
     memory: &mut M,
     operand: &Operand,
 ) -> Result<(u64, u64, u64), Fault>
-    ensures answer { result ≡ (accessed registers.now context.now (meaning memory.old) ToLoad (bytes_of operand.now.width) operand.now.address).0 }
-    ensures after { meaning memory.new ≡ (accessed registers.now context.now (meaning memory.old) ToLoad (bytes_of operand.now.width) operand.now.address).1.memory }
+    ensures answer { result ≡ (accessed registers.now context.now (M.meaning memory.old) ToLoad (bytes_of operand.now.width) operand.now.address).0 }
+    ensures after { M.meaning memory.new ≡ (accessed registers.now context.now (M.meaning memory.old) ToLoad (bytes_of operand.now.width) operand.now.address).1.memory }
     ensures few { FewRead result }
-    ensures isolated { Isolated registers.now context.now (meaning memory.old) ToLoad (bytes_of operand.now.width) operand.now.address }
-    ensures keeps { keeps memory.old memory.new }
+    ensures isolated { Isolated registers.now context.now (M.meaning memory.old) ToLoad (bytes_of operand.now.width) operand.now.address }
+    ensures keeps { M.keeps memory.old memory.new }
 {
     access(
         registers,
@@ -204,11 +204,11 @@ pub fn fetch<M: ProtectedMemory>(
     memory: &mut M,
     instruction: &Instruction,
 ) -> Result<(u64, u64, u64), Fault>
-    ensures answer { result ≡ (accessed registers.now context.now (meaning memory.old) ToFetch 4 instruction.now.address).0 }
-    ensures after { meaning memory.new ≡ (accessed registers.now context.now (meaning memory.old) ToFetch 4 instruction.now.address).1.memory }
+    ensures answer { result ≡ (accessed registers.now context.now (M.meaning memory.old) ToFetch 4 instruction.now.address).0 }
+    ensures after { M.meaning memory.new ≡ (accessed registers.now context.now (M.meaning memory.old) ToFetch 4 instruction.now.address).1.memory }
     ensures few { FewRead result }
-    ensures isolated { Isolated registers.now context.now (meaning memory.old) ToFetch 4 instruction.now.address }
-    ensures keeps { keeps memory.old memory.new }
+    ensures isolated { Isolated registers.now context.now (M.meaning memory.old) ToFetch 4 instruction.now.address }
+    ensures keeps { M.keeps memory.old memory.new }
 {
     access(
         registers,
@@ -227,11 +227,11 @@ pub fn store<M: ProtectedMemory>(
     memory: &mut M,
     stored: &Stored,
 ) -> Result<(u64, u64), Fault>
-    ensures answer { result ≡ without_value (accessed registers.now context.now (meaning memory.old) (ToStore stored.now.value) (bytes_of stored.now.width) stored.now.address).0 }
-    ensures after { meaning memory.new ≡ (accessed registers.now context.now (meaning memory.old) (ToStore stored.now.value) (bytes_of stored.now.width) stored.now.address).1.memory }
+    ensures answer { result ≡ without_value (accessed registers.now context.now (M.meaning memory.old) (ToStore stored.now.value) (bytes_of stored.now.width) stored.now.address).0 }
+    ensures after { M.meaning memory.new ≡ (accessed registers.now context.now (M.meaning memory.old) (ToStore stored.now.value) (bytes_of stored.now.width) stored.now.address).1.memory }
     ensures few { FewPlaced result }
-    ensures isolated { Isolated registers.now context.now (meaning memory.old) (ToStore stored.now.value) (bytes_of stored.now.width) stored.now.address }
-    ensures keeps { keeps memory.old memory.new }
+    ensures isolated { Isolated registers.now context.now (M.meaning memory.old) (ToStore stored.now.value) (bytes_of stored.now.width) stored.now.address }
+    ensures keeps { M.keeps memory.old memory.new }
 {
     let answer = access(
         registers,

@@ -40,8 +40,8 @@ pub fn use_datum<M: ProtectedMemory>(
     addr: u64,
 ) -> (u64, u64, u64)
     requires { Askable setting.now ask width }
-    ensures performs { Performs setting.now (state (meaning memory.old) count) (using_datum ask (bytes_of width) (setting.now.ea % 8) addr) (Ok result) (state (meaning memory.new) count) }
-    ensures keeps { keeps memory.old memory.new }
+    ensures performs { Performs setting.now (state (M.meaning memory.old) count) (using_datum ask (bytes_of width) (setting.now.ea % 8) addr) (Ok result) (state (M.meaning memory.new) count) }
+    ensures keeps { M.keeps memory.old memory.new }
 {
     let offset = setting.ea % 8;
     let word = reached_word(setting, memory, addr);

@@ -29,7 +29,7 @@ fn walk<M: ProtectedMemory>(
 ) -> Result<Leaf, Fault>
     requires good { Good root.now }
     requires count { count.old + 4 < 2 ^ 32 }
-    ensures performs { Performs setting.now (state (meaning memory.now) count.old) (partition_walk purpose addr 4 0 root.now) result (state (meaning memory.now) count.new) }
+    ensures performs { Performs setting.now (state (M.meaning memory.now) count.old) (partition_walk purpose addr 4 0 root.now) result (state (M.meaning memory.now) count.new) }
     ensures few { count.new ≤ count.old + 4 }
 {
     let mut table = *root;
@@ -62,7 +62,7 @@ pub fn guest_reach<M: ProtectedMemory>(
 ) -> Result<Reached, Fault>
     requires scope { GoodScope scope.now }
     requires count { count.old + 4 < 2 ^ 32 }
-    ensures performs { Performs setting.now (state (meaning memory.now) count.old) (guest_reaching scope.now purpose kind addr) result (state (meaning memory.now) count.new) }
+    ensures performs { Performs setting.now (state (M.meaning memory.now) count.old) (guest_reaching scope.now purpose kind addr) result (state (M.meaning memory.now) count.new) }
     ensures few { count.new ≤ count.old + 4 }
 {
     match scope {
@@ -92,8 +92,8 @@ pub fn guest_reach<M: ProtectedMemory>(
 
 /// Adds R, and C for a store, to the doubleword at a place as it stands.
 pub fn amend<M: ProtectedMemory>(setting: &Setting, memory: &mut M, kind: Kind, place: u64)
-    ensures after { meaning memory.new ≡ amended setting.now (meaning memory.old) kind place }
-    ensures keeps { keeps memory.old memory.new }
+    ensures after { M.meaning memory.new ≡ amended setting.now (M.meaning memory.old) kind place }
+    ensures keeps { M.keeps memory.old memory.new }
 {
     let word = reached_word(setting, memory, place);
     put_word(setting, memory, place, word | kind.bits());
@@ -106,8 +106,8 @@ pub fn settle<M: ProtectedMemory>(
     kind: Kind,
     leaf: &Option<Leaf>,
 )
-    ensures after { meaning memory.new ≡ settled setting.now (meaning memory.old) kind leaf.now }
-    ensures keeps { keeps memory.old memory.new }
+    ensures after { M.meaning memory.new ≡ settled setting.now (M.meaning memory.old) kind leaf.now }
+    ensures keeps { M.keeps memory.old memory.new }
 {
     if let Some(leaf) = leaf {
         if !kind.settled(leaf.word) {
@@ -127,9 +127,9 @@ pub fn guest_word<M: ProtectedMemory>(
 ) -> Result<u64, Fault>
     requires scope { GoodScope scope.now }
     requires count { count.old + 5 < 2 ^ 32 }
-    ensures performs { Performs setting.now (state (meaning memory.old) count.old) (guest_words scope.now purpose addr) result (state (meaning memory.new) count.new) }
+    ensures performs { Performs setting.now (state (M.meaning memory.old) count.old) (guest_words scope.now purpose addr) result (state (M.meaning memory.new) count.new) }
     ensures few { count.new ≤ count.old + 5 }
-    ensures keeps { keeps memory.old memory.new }
+    ensures keeps { M.keeps memory.old memory.new }
 {
     let reached = guest_reach(setting, memory, count, scope, purpose, Kind::Load, addr)?;
     settle(setting, memory, Kind::Load, &reached.leaf);
@@ -146,7 +146,7 @@ pub fn partition_entry<M: ProtectedMemory>(
 ) -> Result<Partition, Fault>
     requires setting { GoodSetting setting.now }
     requires count { count.old + 2 < 2 ^ 32 }
-    ensures performs { Performs setting.now (state (meaning memory.now) count.old) (partition_entries setting.now.lpid) result (state (meaning memory.now) count.new) }
+    ensures performs { Performs setting.now (state (M.meaning memory.now) count.old) (partition_entries setting.now.lpid) result (state (M.meaning memory.now) count.new) }
     ensures few { count.new ≤ count.old + 2 }
     ensures good { GoodFound result }
 {

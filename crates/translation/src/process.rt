@@ -33,9 +33,9 @@ pub fn process_entry<M: ProtectedMemory>(
 ) -> Result<u64, Fault>
     requires scope { GoodScope partition.now.scope }
     requires count { count.old + 5 < 2 ^ 32 }
-    ensures performs { Performs setting.now (state (meaning memory.old) count.old) (process_entries partition.now pid) result (state (meaning memory.new) count.new) }
+    ensures performs { Performs setting.now (state (M.meaning memory.old) count.old) (process_entries partition.now pid) result (state (M.meaning memory.new) count.new) }
     ensures few { count.new ≤ count.old + 5 }
-    ensures keeps { keeps memory.old memory.new }
+    ensures keeps { M.keeps memory.old memory.new }
 {
     let site = process_site(Purpose::ProcessEntry, 0);
     let place = setting.check(
@@ -66,9 +66,9 @@ fn walk<M: ProtectedMemory>(
     requires scope { GoodScope scope.now }
     requires good { Good root.now }
     requires count { count.old + 20 < 2 ^ 32 }
-    ensures performs { Performs setting.now (state (meaning memory.old) count.old) (process_walk scope.now offset 4 0 root.now) result (state (meaning memory.new) count.new) }
+    ensures performs { Performs setting.now (state (M.meaning memory.old) count.old) (process_walk scope.now offset 4 0 root.now) result (state (M.meaning memory.new) count.new) }
     ensures few { count.new ≤ count.old + 20 }
-    ensures keeps { keeps memory.old memory.new }
+    ensures keeps { M.keeps memory.old memory.new }
 {
     let purpose = Purpose::ProcessTree;
     let mut table = *root;
@@ -108,9 +108,9 @@ pub fn process_leaf<M: ProtectedMemory>(
 ) -> Result<Leaf, Fault>
     requires scope { GoodScope scope.now }
     requires count { count.old + 20 < 2 ^ 32 }
-    ensures performs { Performs setting.now (state (meaning memory.old) count.old) (process_leaves scope.now problem setting.now.kind offset descriptor) result (state (meaning memory.new) count.new) }
+    ensures performs { Performs setting.now (state (M.meaning memory.old) count.old) (process_leaves scope.now problem setting.now.kind offset descriptor) result (state (M.meaning memory.new) count.new) }
     ensures few { count.new ≤ count.old + 20 }
-    ensures keeps { keeps memory.old memory.new }
+    ensures keeps { M.keeps memory.old memory.new }
 {
     let site = process_site(Purpose::ProcessTree, 0);
     let tree = setting.check(
@@ -140,9 +140,9 @@ pub fn settle_process<M: ProtectedMemory>(
 ) -> Result<(), Fault>
     requires scope { GoodScope scope.now }
     requires count { count.old + 4 < 2 ^ 32 }
-    ensures performs { Performs setting.now (state (meaning memory.old) count.old) (settling_process scope.now setting.now.kind leaf.now) result (state (meaning memory.new) count.new) }
+    ensures performs { Performs setting.now (state (M.meaning memory.old) count.old) (settling_process scope.now setting.now.kind leaf.now) result (state (M.meaning memory.new) count.new) }
     ensures few { count.new ≤ count.old + 4 }
-    ensures keeps { keeps memory.old memory.new }
+    ensures keeps { M.keeps memory.old memory.new }
 {
     if setting.kind.settled(leaf.word) {
         return Ok(());

@@ -7,7 +7,7 @@ use memory::protected::{Mark, ProtectedMemory};
 
 // Whether the frame that an address lies in is secure.
 fn secure_at<M: ProtectedMemory>(memory: &M, addr: u64) -> bool
-    ensures { result ≡ secure_at (meaning memory.now) addr }
+    ensures { result ≡ secure_at (M.meaning memory.now) addr }
 {
     match memory.mark(addr / 4096) {
         Ok(mark) => mark.is_secure(),
@@ -17,14 +17,14 @@ fn secure_at<M: ProtectedMemory>(memory: &M, addr: u64) -> bool
 
 /// Whether an address can be reached.
 pub fn reachable<M: ProtectedMemory>(setting: &Setting, memory: &M, addr: u64) -> bool
-    ensures { result ≡ is_reachable setting.now (meaning memory.now) addr }
+    ensures { result ≡ is_reachable setting.now (M.meaning memory.now) addr }
 {
     addr < memory.size() && !(setting.confined && secure_at(memory, addr))
 }
 
 // The doubleword in which an address lies, and 0 beyond the memory.
 fn doubleword_at<M: ProtectedMemory>(memory: &M, addr: u64) -> u64
-    ensures { result ≡ doubleword (meaning memory.now) addr }
+    ensures { result ≡ doubleword (M.meaning memory.now) addr }
 {
     match memory.read(addr / 8 * 8) {
         Ok(v) => v,
@@ -40,7 +40,7 @@ pub fn reach<M: ProtectedMemory>(
     site: Site,
     addr: u64,
 ) -> Result<(), Fault>
-    ensures { result ≡ (run setting.now (state (meaning memory.now) count) (reaching site addr)).0 }
+    ensures { result ≡ (run setting.now (state (M.meaning memory.now) count) (reaching site addr)).0 }
 {
     if addr >= memory.size() {
         return Err(setting.fault(site, Layer::Storage, Cause::Beyond, addr, count));
@@ -60,7 +60,7 @@ pub fn partition_word<M: ProtectedMemory>(
 ) -> Result<u64, Fault>
     requires setting { GoodSetting setting.now }
     requires count { count.old < 2 ^ 32 }
-    ensures performs { Performs setting.now (state (meaning memory.now) count.old) (partition_words second) result (state (meaning memory.now) count.new) }
+    ensures performs { Performs setting.now (state (M.meaning memory.now) count.old) (partition_words second) result (state (M.meaning memory.now) count.new) }
     ensures few { count.new ≤ count.old + 1 }
 {
     let site = Site::new(Purpose::PartitionEntry, 0, 0);
@@ -85,7 +85,7 @@ pub fn table_word<M: ProtectedMemory>(
     addr: u64,
 ) -> Result<u64, Fault>
     requires { count.old < 2 ^ 32 }
-    ensures performs { Performs setting.now (state (meaning memory.now) count.old) (table_words site addr) result (state (meaning memory.now) count.new) }
+    ensures performs { Performs setting.now (state (M.meaning memory.now) count.old) (table_words site addr) result (state (M.meaning memory.now) count.new) }
     ensures few { count.new ≤ count.old + 1 }
 {
     reach(setting, memory, *count, site, addr)?;
@@ -96,7 +96,7 @@ pub fn table_word<M: ProtectedMemory>(
 
 /// A doubleword that was reached before.
 pub fn reached_word<M: ProtectedMemory>(setting: &Setting, memory: &M, addr: u64) -> u64
-    ensures { result ≡ read_reached setting.now (meaning memory.now) addr }
+    ensures { result ≡ read_reached setting.now (M.meaning memory.now) addr }
 {
     if reachable(setting, memory, addr) {
         doubleword_at(memory, addr)
@@ -107,8 +107,8 @@ pub fn reached_word<M: ProtectedMemory>(setting: &Setting, memory: &M, addr: u64
 
 /// Writes a doubleword that was reached before.
 pub fn put_word<M: ProtectedMemory>(setting: &Setting, memory: &mut M, addr: u64, value: u64)
-    ensures after { meaning memory.new ≡ write_reached setting.now (meaning memory.old) addr value }
-    ensures keeps { keeps memory.old memory.new }
+    ensures after { M.meaning memory.new ≡ write_reached setting.now (M.meaning memory.old) addr value }
+    ensures keeps { M.keeps memory.old memory.new }
 {
     if reachable(setting, memory, addr) {
         let _ = memory.write(addr / 8 * 8, value);

@@ -3,23 +3,23 @@ use Rattle.translation.specs.Access.{guest_access}
 use Rattle.translation.proofs.Performing.{onward, halted, settling}
 use Rattle.translation.proofs.access.guest_access.Goals as goal
 
-pub returns-in-err-partition : goal.returns-in-err-partition
+pub returns-in_err-partition : goal.returns-in_err-partition
 unfolding guest_access
-returns-in-err-partition g c =
+returns-in_err-partition g c =
     record {
       performs =
-          halted c.partition_entry.ensures.performs c.in-err-partition.was (search rules);
+          halted c.partition_entry.ensures.performs c.in_err-partition.was (search rules);
       few = search rules;
       keeps = g.M.ProtectedMemory.keeping.same _;
     }
 
-pub returns-in-err-reached : goal.returns-in-err-reached
+pub returns-in_err-reached : goal.returns-in_err-reached
 unfolding guest_access
-returns-in-err-reached g c =
+returns-in_err-reached g c =
     record {
       performs =
-          onward c.partition_entry.ensures.performs c.in-ok-partition.was
-          (halted c.guest_reach.ensures.performs c.in-err-reached.was (search rules));
+          onward c.partition_entry.ensures.performs c.in_ok-partition.was
+          (halted c.guest_reach.ensures.performs c.in_err-reached.was (search rules));
       few = search rules;
       keeps = g.M.ProtectedMemory.keeping.same _;
     }
@@ -29,8 +29,8 @@ unfolding guest_access
 returns g c =
     record {
       performs =
-          onward c.partition_entry.ensures.performs c.in-ok-partition.was
-          (onward c.guest_reach.ensures.performs c.in-ok-reached.was
+          onward c.partition_entry.ensures.performs c.in_ok-partition.was
+          (onward c.guest_reach.ensures.performs c.in_ok-reached.was
           (settling c.settle.ensures.after c.use_datum.ensures.performs));
       few = search rules;
       keeps = g.M.ProtectedMemory.keeping.then _ _ _ c.settle.ensures.keeps c.use_datum.ensures.keeps;

@@ -4,8 +4,8 @@ use Rattle.translation.proofs.datum.use_datum.Goals as goal
 
 pub returns-in-ToStore : goal.returns-in-ToStore
 unfolding use_datum
-returns-in-ToStore g c = record { performs = record { answer = search rules; after = search rules }; keeps = c.put-word.ensures.keeps }
+returns-in-ToStore g c = record { performs = record { answer = search rules; after = search rules }; keeps = c.put_word.ensures.keeps }
 
-pub returns-in-default : goal.returns-in-default
+pub returns-in_default : goal.returns-in_default
 unfolding use_datum
-returns-in-default g c = record { performs = record { answer = search rules; after = search rules }; keeps = g.M.ProtectedMemory.keeping.same _ }
+returns-in_default g c = record { performs = record { answer = search rules; after = search rules }; keeps = g.M.ProtectedMemory.keeping.same _ }

@@ -2,9 +2,9 @@ use Rattle.std.proofs.Common.{rules}
 use Rattle.translation.specs.Access.{guest_word}
 use Rattle.translation.proofs.partition.guest_word.Goals as goal
 
-pub returns-in-err-reached : goal.returns-in-err-reached
+pub returns-in_err-reached : goal.returns-in_err-reached
 unfolding guest_word
-returns-in-err-reached g c =
+returns-in_err-reached g c =
     record {
       performs = record { answer = search rules; after = search rules };
       few = search rules;

@@ -18,9 +18,9 @@ returns-else-not-settled g c =
       keeps = g.M.ProtectedMemory.keeping.same _;
     }
 
-pub returns-in-default : goal.returns-in-default
+pub returns-in_default : goal.returns-in_default
 unfolding settled
-returns-in-default g c =
+returns-in_default g c =
     record {
       after = search rules;
       keeps = g.M.ProtectedMemory.keeping.same _;

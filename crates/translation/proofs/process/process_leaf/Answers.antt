@@ -3,35 +3,35 @@ use Rattle.translation.specs.Access.{process_leaf}
 use Rattle.translation.proofs.Performing.{onward, halted, checked}
 use Rattle.translation.proofs.process.process_leaf.Goals as goal
 
-pub returns-in-err-tree : goal.returns-in-err-tree
+pub returns-in_err-tree : goal.returns-in_err-tree
 unfolding process_leaf
-returns-in-err-tree g c =
+returns-in_err-tree g c =
     record {
       performs =
-          halted (checked c.check.ensures c.process-site-site.ensures c.process_tree.ensures.answer) c.in-err-tree.was (search rules);
+          halted (checked c.check.ensures c.process_site-site.ensures c.process_tree.ensures.answer) c.in_err-tree.was (search rules);
       few = search rules;
       keeps = g.M.ProtectedMemory.keeping.same _;
     }
 
-pub returns-in-err-leaf : goal.returns-in-err-leaf
+pub returns-in_err-leaf : goal.returns-in_err-leaf
 unfolding process_leaf
-returns-in-err-leaf g c =
+returns-in_err-leaf g c =
     record {
       performs =
-          onward (checked c.check.ensures c.process-site-site.ensures c.process_tree.ensures.answer) c.in-ok-tree.was
-          (halted c.walk.ensures.performs c.in-err-leaf.was (search rules));
+          onward (checked c.check.ensures c.process_site-site.ensures c.process_tree.ensures.answer) c.in_ok-tree.was
+          (halted c.walk.ensures.performs c.in_err-leaf.was (search rules));
       few = search rules;
       keeps = c.walk.ensures.keeps;
     }
 
-pub returns-in-err-check : goal.returns-in-err-check
+pub returns-in_err-check : goal.returns-in_err-check
 unfolding process_leaf
-returns-in-err-check g c =
+returns-in_err-check g c =
     record {
       performs =
-          onward (checked c.check.ensures c.process-site-site.ensures c.process_tree.ensures.answer) c.in-ok-tree.was
-          (onward c.walk.ensures.performs c.in-ok-leaf.was
-          (halted (checked c.check-2.ensures c.process-site-site-2.ensures c.process_right.ensures) c.in-err-check.was (search rules)));
+          onward (checked c.check.ensures c.process_site-site.ensures c.process_tree.ensures.answer) c.in_ok-tree.was
+          (onward c.walk.ensures.performs c.in_ok-leaf.was
+          (halted (checked c.check-2.ensures c.process_site-site-2.ensures c.process_right.ensures) c.in_err-check.was (search rules)));
       few = search rules;
       keeps = c.walk.ensures.keeps;
     }
@@ -41,9 +41,9 @@ unfolding process_leaf
 returns g c =
     record {
       performs =
-          onward (checked c.check.ensures c.process-site-site.ensures c.process_tree.ensures.answer) c.in-ok-tree.was
-          (onward c.walk.ensures.performs c.in-ok-leaf.was
-          (onward (checked c.check-2.ensures c.process-site-site-2.ensures c.process_right.ensures) c.in-ok-check.was
+          onward (checked c.check.ensures c.process_site-site.ensures c.process_tree.ensures.answer) c.in_ok-tree.was
+          (onward c.walk.ensures.performs c.in_ok-leaf.was
+          (onward (checked c.check-2.ensures c.process_site-site-2.ensures c.process_right.ensures) c.in_ok-check.was
           (record { answer = refl; after = refl })));
       few = search rules;
       keeps = c.walk.ensures.keeps;

@@ -11,9 +11,9 @@ returns-then-settled g c =
       keeps = g.M.ProtectedMemory.keeping.same _;
     }
 
-pub returns-in-err-reached : goal.returns-in-err-reached
+pub returns-in_err-reached : goal.returns-in_err-reached
 unfolding settle_process
-returns-in-err-reached g c =
+returns-in_err-reached g c =
     record {
       performs = record { answer = search rules; after = search rules };
       few = search rules;

@@ -5,29 +5,29 @@ use Rattle.translation.proofs.Performing.{onward, halted, checked, alike}
 use Rattle.translation.proofs.Walks.{walk_turn}
 use Rattle.translation.proofs.process.walk.Goals as goal
 
-pub returns-in-err-word : goal.returns-in-err-word
-returns-in-err-word g c =
+pub returns-in_err-word : goal.returns-in_err-word
+returns-in_err-word g c =
     let h : c.loop-depth.depth < 4 = c.loop-depth-test.true in
     let now = state (g.M.ProtectedMemory.meaning c.loop-depth.memory) c.loop-depth.count in
     let rest = process_walk c.args.scope.now c.args.offset (4 - c.loop-depth.depth) c.loop-depth.depth c.loop-depth.table in
     record {
       performs =
-          alike {y = now} {q = rest} c.loop-depth.invariant.3 (rw (walk_turn, ← c.place-of-place.ensures)
-          (halted c.guest_word.ensures.performs c.in-err-word.was (search rules)));
+          alike {y = now} {q = rest} c.loop-depth.invariant.3 (rw (walk_turn, ← c.place_of-place.ensures)
+          (halted c.guest_word.ensures.performs c.in_err-word.was (search rules)));
       few = search rules;
       keeps = g.M.ProtectedMemory.keeping.then _ _ _ c.loop-depth.invariant.4 c.guest_word.ensures.keeps;
     }
 
-pub returns-in-err-leaf : goal.returns-in-err-leaf
-returns-in-err-leaf g c =
+pub returns-in_err-leaf : goal.returns-in_err-leaf
+returns-in_err-leaf g c =
     let h : c.loop-depth.depth < 4 = c.loop-depth-test.true in
     let now = state (g.M.ProtectedMemory.meaning c.loop-depth.memory) c.loop-depth.count in
     let rest = process_walk c.args.scope.now c.args.offset (4 - c.loop-depth.depth) c.loop-depth.depth c.loop-depth.table in
     record {
       performs =
-          alike {y = now} {q = rest} c.loop-depth.invariant.3 (rw (walk_turn, ← c.place-of-place.ensures)
-          (onward c.guest_word.ensures.performs c.in-ok-word.was
-          (halted (checked c.check.ensures c.process-site.ensures c.step-of-step.ensures.answer) c.in-err-leaf.was (search rules))));
+          alike {y = now} {q = rest} c.loop-depth.invariant.3 (rw (walk_turn, ← c.place_of-place.ensures)
+          (onward c.guest_word.ensures.performs c.in_ok-word.was
+          (halted (checked c.check.ensures c.process_site.ensures c.step_of-step.ensures.answer) c.in_err-leaf.was (search rules))));
       few = search rules;
       keeps = g.M.ProtectedMemory.keeping.then _ _ _ c.loop-depth.invariant.4 c.guest_word.ensures.keeps;
     }
@@ -39,9 +39,9 @@ returns-in-Found g c =
     let rest = process_walk c.args.scope.now c.args.offset (4 - c.loop-depth.depth) c.loop-depth.depth c.loop-depth.table in
     record {
       performs =
-          alike {y = now} {q = rest} c.loop-depth.invariant.3 (rw (walk_turn, ← c.place-of-place.ensures)
-          (onward c.guest_word.ensures.performs c.in-ok-word.was
-          (onward (checked c.check.ensures c.process-site.ensures c.step-of-step.ensures.answer) (c.in-ok-leaf.was ∙ ap Ok c.in-Found.is)
+          alike {y = now} {q = rest} c.loop-depth.invariant.3 (rw (walk_turn, ← c.place_of-place.ensures)
+          (onward c.guest_word.ensures.performs c.in_ok-word.was
+          (onward (checked c.check.ensures c.process_site.ensures c.step_of-step.ensures.answer) (c.in_ok-leaf.was ∙ ap Ok c.in-Found.is)
           (record { answer = refl; after = refl }))));
       few = search rules;
       keeps = g.M.ProtectedMemory.keeping.then _ _ _ c.loop-depth.invariant.4 c.guest_word.ensures.keeps;

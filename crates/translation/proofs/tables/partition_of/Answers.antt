@@ -1,5 +1,5 @@
 use Rattle.std.proofs.Common.{rules}
-use Rattle.translation.specs.Tables.{table_of, leaf_of, step_of, place_of, tree_of, partition_of, process_place, process_tree, right_of, process_right}
+use Rattle.translation.specs.Tables.{partition_of}
 use Rattle.translation.proofs.tables.partition_of.Goals as goal
 
 pub returns-then-not-valid : goal.returns-then-not-valid
@@ -10,9 +10,9 @@ pub returns-then-lpid-eq0 : goal.returns-then-lpid-eq0
 unfolding partition_of
 returns-then-lpid-eq0 c = search rules
 
-pub returns-in-err-tree : goal.returns-in-err-tree
+pub returns-in_err-tree : goal.returns-in_err-tree
 unfolding partition_of
-returns-in-err-tree c = search rules
+returns-in_err-tree c = search rules
 
 pub returns : goal.returns
 unfolding partition_of

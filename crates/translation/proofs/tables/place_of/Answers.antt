@@ -1,5 +1,5 @@
 use Rattle.std.proofs.Common.{rules}
-use Rattle.translation.specs.Tables.{table_of, leaf_of, step_of, place_of, tree_of, partition_of, process_place, process_tree, right_of, process_right}
+use Rattle.translation.specs.Tables.{place_of}
 use Rattle.translation.proofs.tables.place_of.Goals as goal
 
 pub returns : goal.returns

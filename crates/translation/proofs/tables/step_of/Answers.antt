@@ -1,23 +1,23 @@
 use Rattle.std.proofs.Common.{rules}
-use Rattle.translation.specs.Tables.{table_of, leaf_of, step_of, place_of, tree_of, partition_of, process_place, process_tree, right_of, process_right}
+use Rattle.translation.specs.Tables.{step_of}
 use Rattle.translation.proofs.tables.step_of.Goals as goal
 
-pub returns-in-err-valid-first : goal.returns-in-err-valid-first
+pub returns-in_err-valid_first : goal.returns-in_err-valid_first
 unfolding step_of
-returns-in-err-valid-first c = search rules
+returns-in_err-valid_first c = search rules
 
-pub returns-in-err-leaf-of : goal.returns-in-err-leaf-of
+pub returns-in_err-leaf_of : goal.returns-in_err-leaf_of
 unfolding step_of
-returns-in-err-leaf-of c = search rules
+returns-in_err-leaf_of c = search rules
 
-pub returns-in-err-table-of : goal.returns-in-err-table-of
+pub returns-in_err-table_of : goal.returns-in_err-table_of
 unfolding step_of
-returns-in-err-table-of c = search rules
+returns-in_err-table_of c = search rules
 
-pub returns-in-ok-leaf-of : goal.returns-in-ok-leaf-of
+pub returns-in_ok-leaf_of : goal.returns-in_ok-leaf_of
 unfolding step_of
-returns-in-ok-leaf-of c = search rules
+returns-in_ok-leaf_of c = search rules
 
-pub returns-in-ok-table-of : goal.returns-in-ok-table-of
+pub returns-in_ok-table_of : goal.returns-in_ok-table_of
 unfolding step_of
-returns-in-ok-table-of c = search rules
+returns-in_ok-table_of c = search rules

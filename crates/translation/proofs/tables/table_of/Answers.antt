@@ -1,10 +1,10 @@
 use Rattle.std.proofs.Common.{rules}
-use Rattle.translation.specs.Tables.{table_of, leaf_of, step_of, place_of, tree_of, partition_of, process_place, process_tree, right_of, process_right}
+use Rattle.translation.specs.Tables.{table_of}
 use Rattle.translation.proofs.tables.table_of.Goals as goal
 
-pub returns-then-flawed-table : goal.returns-then-flawed-table
+pub returns-then-flawed_table : goal.returns-then-flawed_table
 unfolding table_of
-returns-then-flawed-table c = search rules
+returns-then-flawed_table c = search rules
 
 pub returns : goal.returns
 unfolding table_of

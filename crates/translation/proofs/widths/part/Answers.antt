@@ -8,8 +8,8 @@ pub returns-in-Doubleword : goal.returns-in-Doubleword
 returns-in-Doubleword c =
     whole c.args.width c.args.offset c.args.v c.in-Doubleword.is c.requires (omega arith)
 
-pub returns-in-default : goal.returns-in-default
-returns-in-default c =
+pub returns-in_default : goal.returns-in_default
+returns-in_default c =
     let s : c.above.result ≡ above (bytes_of c.args.width) c.args.offset = omega arith in
-    part_is (bytes_of c.args.width) c.args.offset c.args.v _ _ c.bytes-in-default.ensures s
-    (few_bytes c.args.width c.in-default.not-Doubleword)
+    part_is (bytes_of c.args.width) c.args.offset c.args.v _ _ c.bytes-in_default.ensures s
+    (few_bytes c.args.width c.in_default.not-Doubleword)
