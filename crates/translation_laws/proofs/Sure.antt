@@ -1,13 +1,12 @@
 -- Programs whose second looks never matter. Assumes nothing.
-use Rattle.std.proofs.Common.{◌≡◌, ℕ, zero, suc, ◌+◌, ◌-◌, ◌*◌, ◌/◌, ◌%◌, Bool, true, false, cond, not, ◌&&◌, ltb, List, length, get_or, Some, None, Ok, Err, Option, Result, sym, refl, ap, ◌∙◌, subst, true≢false, arith}
-use mathlib.Core.Bool.{false≢true}
+use Rattle.std.proofs.Common.{◌≡◌, ℕ, zero, suc, ◌+◌, ◌-◌, ◌*◌, ◌/◌, ◌%◌, Bool, true, false, cond, not, ◌&&◌, ltb, List, length, get_or, Some, None, Ok, Err, Option, Result, sym, refl, ap, ◌∙◌, subst, arith}
 use lib.Bits.{bit_or}
 use Rattle.std.proofs.lemmas.Bool.{cond-true}
 use Rattle.memory.specs.declared.protected.Mark.{Mark}
 use Rattle.memory.specs.declared.protected.Mark.TheVariants.{Ordinary}
 use Rattle.memory.specs.Protected.{Meaning, size_of, written, is_secure}
 use Rattle.translation.specs.declared.fault.Kind.{Kind}
-use Rattle.translation.specs.declared.fault.Kind.TheVariants.{Load, Store, Fetch}
+use Rattle.translation.specs.declared.fault.Kind.TheVariants.{Load, Store}
 use Rattle.translation.specs.declared.fault.Cause.{Cause}
 use Rattle.translation.specs.declared.fault.Cause.TheVariants.{Unsupported, Invalid}
 use Rattle.translation.specs.declared.fault.Layer.{Layer}
@@ -26,16 +25,14 @@ use Rattle.translation.specs.declared.tables.Partition.{Partition as Entry}
 use Rattle.translation.specs.declared.partition.Reached.{Reached}
 use Rattle.translation.specs.declared.registers.Route.{Route}
 use Rattle.translation.specs.declared.registers.Route.TheVariants.{NoSegment, AtReal, AtGuest, AtProcess}
-use Rattle.translation.specs.declared.registers.Registers.{Registers}
-use Rattle.translation.specs.declared.registers.Context.{Context}
 use Rattle.translation.specs.declared.datum.Ask.{Ask}
 use Rattle.translation.specs.declared.datum.Ask.TheVariants.{ToLoad, ToFetch, ToStore}
 use Rattle.translation.specs.Fields.{valid, leaf, next_width, next_base}
-use Rattle.translation.specs.Fault.{fault_at, faulted}
+use Rattle.translation.specs.Fault.{faulted}
 use Rattle.translation.specs.Tables.{settling_bits, is_settled, place_of, step_of, leaf_of, table_of, unless, page_bits, page_address, flawed_table, found, next}
-use Rattle.translation.specs.Program.{Program, ret, check, reach, partition_word, table_word, reached_word, settle, amend, datum_word, put_word, tally, bind, State, state, Outcome, doubleword, secure_at, reachable, counted, reached, entered, amended, settled, then_do, run}
+use Rattle.translation.specs.Program.{Program, ret, check, reach, partition_word, table_word, reached_word, settle, amend, datum_word, put_word, tally, bind, State, state, doubleword, secure_at, reachable, counted, reached, amended, settled, then_do, run}
 use Rattle.translation.specs.Route.{effective, route_of, lpid_of, setting_of}
-use Rattle.translation.specs.Access.{kind_of, site_of, walk, guest_reach, guest_word, partition_entry, process_entry, process_leaf, settle_process, use_datum, real_access, guest_access, process_access, access_by}
+use Rattle.translation.specs.Access.{kind_of, walk, guest_reach, guest_word, partition_entry, process_entry, process_leaf, settle_process, use_datum, real_access, guest_access, process_access, access_by}
 use Rattle.translation.proofs.Isolation.{marks_stay, size_stays}
 use Rattle.translation_laws.specs.Unguarded.{plainly_amended, plainly_settled, run_plainly, GuardsIdle}
 

@@ -1,5 +1,5 @@
 -- An access whose questions rely on what was reached before, with no second look. Assumes nothing.
-use Rattle.std.specs.Prelude.{◌≡◌, ℕ, ◌+◌, ◌*◌, ◌/◌, ◌%◌, Bool, true, false, cond, Some, None, Ok, Err, Option, Result, bit_or}
+use Rattle.std.specs.Prelude.{◌≡◌, ℕ, ◌*◌, ◌/◌, ◌%◌, cond, Some, None, Ok, Option, bit_or}
 use Rattle.memory.specs.Protected.{Meaning, written}
 use Rattle.translation.specs.declared.fault.Kind.{Kind}
 use Rattle.translation.specs.declared.fault.Setting.{Setting}
