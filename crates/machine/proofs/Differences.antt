@@ -1,14 +1,13 @@
 -- Where two readings agree everywhere, nothing differs. Assumes nothing.
-use Rattle.std.proofs.Common.{◌≡◌, ℕ, zero, suc, ◌+◌, ◌/◌, Bool, true, false, cond, not, ◌&&◌, ◌||◌, eqb, ltb, List, [], ◌∷◌, length, get_or, Option, sym, refl, ap, ◌∙◌, subst, arith}
+use Rattle.std.proofs.Common.{◌≡◌, ℕ, zero, suc, ◌+◌, ◌/◌, Bool, true, false, cond, not, ◌&&◌, ◌||◌, eqb, ltb, List, [], ◌∷◌, length, get_or, Option, sym, refl, ap, ◌∙◌, arith}
 use Rattle.std.proofs.lemmas.Bool.{eq-eqb, and_from}
 use Rattle.memory.specs.declared.protected.Mark.{Mark}
 use Rattle.memory.specs.declared.protected.Mark.TheVariants.{Ordinary}
-use Rattle.memory.specs.Protected.{Meaning, size_of, is_secure, number_of}
+use Rattle.memory.specs.Protected.{size_of, is_secure, number_of}
 use Rattle.translation.specs.declared.fault.Fault.{Fault}
-use Rattle.translation.specs.declared.registers.Registers.{Registers}
 use Rattle.translation.specs.declared.registers.Context.{Context}
 use Rattle.translation.specs.Program.{secure_at}
-use Rattle.machine.specs.State.{State, thread_at}
+use Rattle.machine.specs.State.{State}
 use Rattle.machine.specs.Isolation.{Alike, same, differing, reading, flag, in_table, visible, mark_read, visible_read, secret_read, context_read, fault_numbers, fault_read, differences, secret_differences, frames_in, bytes_in}
 
 same_itself : (xs : List ℕ) → same xs xs ≡ true

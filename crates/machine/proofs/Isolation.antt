@@ -1,6 +1,5 @@
 -- Ordinary threads learn nothing and alter nothing, over whole lists of calls. Assumes nothing.
-use Rattle.std.proofs.Common.{◌≡◌, ℕ, suc, ◌+◌, Bool, true, false, cond, List, [], ◌∷◌, length, sym, refl, ap, ◌∙◌, subst, arith}
-use mathlib.Core.Bool.{false≢true}
+use Rattle.std.proofs.Common.{◌≡◌, suc, Bool, true, false, cond, List, [], ◌∷◌, length, sym, refl, ap, ◌∙◌, subst, arith}
 use Rattle.memory.specs.Protected.{Meaning}
 use Rattle.translation.specs.declared.registers.Registers.{Registers}
 use Rattle.machine.specs.declared.calls.Call.{Call}
@@ -8,10 +7,10 @@ use Rattle.machine.specs.declared.calls.Answer.{Answer}
 use Rattle.machine.specs.State.{State, started}
 use Rattle.machine.specs.Calls.{caller, step}
 use Rattle.machine.specs.Runs.{runs}
-use Rattle.machine.specs.Isolation.{Alike, AlikeMemories, ordinary_thread, next, struck, unless_struck, remaining, watched, Harmless, differences, secret_differences, Agreeing, ToldApartByNothing, LearnsNothing, LearnsNothingOn, altered, AltersNothing, Isolated}
+use Rattle.machine.specs.Isolation.{Alike, ordinary_thread, next, struck, unless_struck, remaining, watched, Harmless, secret_differences, Agreeing, LearnsNothing, LearnsNothingOn, AltersNothing, Isolated}
 use Rattle.machine.proofs.Differences.{alike_differences, secret_same}
 use Rattle.machine.proofs.Likeness.{alike_back, alike_on}
-use Rattle.machine.proofs.Together.{Both, Quiet, together, aside, step_kept, registers_stay}
+use Rattle.machine.proofs.Together.{together, aside, step_kept, registers_stay}
 
 still_on : (s : State) (c : Call) → s.registers.facility ≡ true → (next s c).registers.facility ≡ true
 still_on s c on = ap (λ (r : Registers). r.facility) (registers_stay s c) ∙ on

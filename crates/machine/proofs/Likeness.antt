@@ -1,10 +1,7 @@
 -- Likeness of states: an equivalence, and what it says of memories. Assumes nothing.
-use Rattle.std.proofs.Common.{◌≡◌, ℕ, zero, suc, ◌+◌, ◌*◌, ◌/◌, ◌<◌, ◌≤◌, Bool, true, false, cond, not, ◌&&◌, ◌||◌, ltb, leb, ◌⊎◌, List, [], ◌∷◌, length, get_or, set, Option, sym, refl, ap, ◌∙◌, subst, inl, inr, arith, length-set}
+use Rattle.std.proofs.Common.{◌≡◌, ℕ, zero, suc, ◌+◌, ◌*◌, ◌/◌, true, false, not, ◌||◌, ltb, leb, ◌⊎◌, List, [], ◌∷◌, length, set, sym, refl, ap, ◌∙◌, subst, inl, inr, arith}
 use Rattle.std.proofs.lemmas.Bool.{or_cases, or_left, or_right, not-true, not_from_false, and_parts, and_from, leb-true, ltb-true, le-leb, lt-ltb}
-use Rattle.memory.specs.declared.protected.Mark.{Mark}
-use Rattle.memory.specs.Protected.{Meaning, size_of}
-use Rattle.translation.specs.declared.fault.Setting.{Setting}
-use Rattle.translation.specs.declared.fault.Fault.{Fault}
+use Rattle.memory.specs.Protected.{Meaning}
 use Rattle.translation.specs.declared.registers.Registers.{Registers}
 use Rattle.translation.specs.declared.registers.Context.{Context}
 use Rattle.translation.specs.declared.datum.Ask.{Ask}

@@ -1,5 +1,5 @@
 -- One call: on two states that are alike, of a secure thread, and of an ordinary thread. Assumes nothing.
-use Rattle.std.proofs.Common.{◌≡◌, ℕ, zero, suc, ◌+◌, ◌*◌, ◌/◌, ◌<◌, ◌≤◌, Bool, true, false, cond, not, ◌&&◌, ◌||◌, ltb, ◌⊎◌, List, [], ◌∷◌, length, get_or, set, replicate, Some, None, Ok, Err, Option, Result, sym, refl, ap, ◌∙◌, subst, inl, inr, arith, length-set, get_or-set_other}
+use Rattle.std.proofs.Common.{◌≡◌, ℕ, zero, suc, ◌+◌, ◌*◌, ◌/◌, ◌<◌, ◌≤◌, Bool, true, false, cond, not, ◌&&◌, ◌||◌, ltb, ◌⊎◌, List, [], ◌∷◌, length, get_or, set, replicate, None, Ok, Err, Option, Result, sym, refl, ap, ◌∙◌, subst, inl, inr, arith, length-set, get_or-set_other}
 use mathlib.Core.Bool.{false≢true}
 use lib.ListN.{length-replicate}
 use Rattle.std.proofs.lemmas.Bool.{and_parts, and_from, not_from_false, not-true, or_cases, or_left, or_right, cases_lt, lt-ltb, le-ltb, cond-true, cond-false}
@@ -7,17 +7,15 @@ use Rattle.std.proofs.lemmas.List.{get_or_past}
 use Rattle.memory.specs.declared.protected.Mark.{Mark as Marking}
 use Rattle.memory.specs.declared.protected.Mark.TheVariants.{Ordinary, Secure}
 use Rattle.memory.specs.Bytes.{over}
-use Rattle.memory.specs.Protected.{Meaning, size_of, has_frame, is_secure, marked, zeroed}
+use Rattle.memory.specs.Protected.{Meaning, has_frame, is_secure, marked, zeroed}
 use Rattle.memory.proofs.Lists.{length_over, over_both}
-use Rattle.memory.proofs.Laws.{size_zeroed}
 use Rattle.translation.specs.declared.fault.Fault.{Fault}
 use Rattle.translation.specs.declared.registers.Registers.{Registers}
 use Rattle.translation.specs.declared.registers.Context.{Context}
 use Rattle.translation.specs.declared.widths.Unaskable.{Unaskable}
 use Rattle.translation.specs.Widths.{asked, fetched}
-use Rattle.translation.specs.Program.{Outcome, secure_at}
 use Rattle.translation.specs.Route.{confined}
-use Rattle.translation.specs.Access.{accessed, without_value}
+use Rattle.translation.specs.Access.{accessed}
 use Rattle.translation.specs.Alike.{Kept}
 use Rattle.translation.proofs.Accesses.{access_isolated, access_marks, access_size}
 use Rattle.machine.specs.declared.refusal.Refusal.{Refusal}
@@ -26,14 +24,13 @@ use Rattle.machine.specs.declared.threads.Thread.{Thread}
 use Rattle.machine.specs.declared.calls.Call.{Call}
 use Rattle.machine.specs.declared.calls.Call.TheVariants.{Enter, Load, Store, Fetch, Mark, Report}
 use Rattle.machine.specs.declared.calls.Answer.{Answer}
-use Rattle.machine.specs.declared.calls.Answer.TheVariants.{Done, Loaded, Stored, Reported}
+use Rattle.machine.specs.declared.calls.Answer.TheVariants.{Done, Reported}
 use Rattle.machine.specs.Contexts.{is_ultravisor, allowed}
-use Rattle.machine.specs.State.{State, no_thread, thread_at, thread_of, with_thread, with_memory, same_side, entering, faulting}
-use Rattle.machine.specs.Refusals.{refusal_of}
-use Rattle.machine.specs.Calls.{caller, refused, Request, stopped, loaded, stored, recorded, concluded, access_of, load_of, store_of, fetch_of, turned, remarked, taken, by_thread, step}
-use Rattle.machine.specs.Isolation.{Alike, AlikeMemories, in_table, visible, secure_thread, ordinary_thread, is_access, is_report, struck, next}
+use Rattle.machine.specs.State.{State, thread_at, thread_of, with_thread, with_memory, same_side, entering, faulting}
+use Rattle.machine.specs.Calls.{caller, Request, loaded, stored, recorded, concluded, access_of, load_of, store_of, fetch_of, turned, remarked, taken, by_thread, step}
+use Rattle.machine.specs.Isolation.{Alike, AlikeMemories, in_table, visible, secure_thread, ordinary_thread, is_access, struck, next}
 use Rattle.machine.proofs.Differences.{secure_in}
-use Rattle.machine.proofs.Likeness.{memory_same, for_access, of_access, alike_same, Like, like_same, like_set, like_one, likes}
+use Rattle.machine.proofs.Likeness.{for_access, of_access, alike_same, Like, like_set, like_one, likes}
 
 -- the same answer, and states that are alike
 pub record Both (o p : Answer × State) : Type 0 where

@@ -1,10 +1,9 @@
 -- What each call answers, and the state after it. Assumes nothing.
-use Rattle.std.specs.Prelude.{◌≡◌, ℕ, Bool, true, false, cond, List, Some, None, Ok, Err, Option, Result, slice_index_or, slice_set}
+use Rattle.std.specs.Prelude.{◌≡◌, ℕ, cond, List, Ok, Err, Result, slice_index_or, slice_set}
 use Rattle.memory.specs.declared.protected.Mark.{Mark as Marking}
 use Rattle.memory.specs.declared.protected.Mark.TheVariants.{Ordinary, Secure}
 use Rattle.memory.specs.Protected.{Meaning, has_frame, marked, zeroed}
 use Rattle.translation.specs.declared.fault.Fault.{Fault}
-use Rattle.translation.specs.declared.registers.Context.{Context}
 use Rattle.translation.specs.declared.widths.Width.{Width}
 use Rattle.translation.specs.declared.widths.Unaskable.{Unaskable}
 use Rattle.translation.specs.declared.datum.Ask.{Ask}
@@ -13,7 +12,7 @@ use Rattle.translation.specs.Widths.{bytes_of, asked, fitting, fetched}
 use Rattle.translation.specs.Program.{Outcome}
 use Rattle.translation.specs.Access.{accessed, without_value}
 use Rattle.machine.specs.declared.refusal.Refusal.{Refusal}
-use Rattle.machine.specs.declared.refusal.Refusal.TheVariants.{NoThread, BadContext, NotUltravisor, NoFrame}
+use Rattle.machine.specs.declared.refusal.Refusal.TheVariants.{BadContext, NotUltravisor, NoFrame}
 use Rattle.machine.specs.declared.refusal.Stop.{Stop}
 use Rattle.machine.specs.declared.refusal.Stop.TheVariants.{Declined, Faulted}
 use Rattle.machine.specs.declared.threads.Thread.{Thread}

@@ -1,5 +1,5 @@
 -- The rules of contexts. Assumes nothing.
-use Rattle.std.specs.Prelude.{ℕ, Bool, true, false, cond, not, ◌&&◌, ◌||◌, ◌==◌, nat_lt}
+use Rattle.std.specs.Prelude.{Bool, true, false, not, ◌&&◌, ◌||◌, ◌==◌, nat_lt}
 use Rattle.translation.specs.declared.registers.Context.{Context}
 use Rattle.translation.specs.declared.registers.Registers.{Registers}
 

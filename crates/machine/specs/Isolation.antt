@@ -8,7 +8,6 @@ use Rattle.memory.specs.declared.protected.Mark.TheVariants.{Ordinary}
 use Rattle.memory.specs.Protected.{Meaning, size_of, frames_of, has_frame, number_of}
 use Rattle.translation.specs.declared.fault.Fault.{Fault}
 use Rattle.translation.specs.declared.registers.Registers.{Registers}
-use Rattle.translation.specs.declared.registers.Context.{Context}
 use Rattle.translation.specs.Fault.{cause_number, layer_number, purpose_number}
 use Rattle.translation.specs.Fields.{table_base}
 use Rattle.translation.specs.Route.{table_entries}

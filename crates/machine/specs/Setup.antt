@@ -1,5 +1,5 @@
 -- Which register images a setup takes. Assumes nothing.
-use Rattle.std.specs.Prelude.{ℕ, ◌+◌, ◌%◌, ◌^◌, Bool, true, false, cond, not, ◌&&◌, ◌||◌, Ok, Err, Result, ◌==◌, nat_lt}
+use Rattle.std.specs.Prelude.{ℕ, ◌+◌, ◌%◌, ◌^◌, Bool, false, cond, not, ◌&&◌, Ok, Err, Result, ◌==◌, nat_lt}
 use Rattle.translation.specs.declared.registers.Registers.{Registers}
 use Rattle.translation.specs.Fields.{bits, table_base, table_size}
 use Rattle.machine.specs.declared.refusal.Refusal.{Refusal}

@@ -1,5 +1,5 @@
 -- A machine's state, and how it starts. Assumes nothing.
-use Rattle.std.specs.Prelude.{ℕ, ◌<◌, Bool, true, false, cond, not, List, replicate, Some, None, Ok, Err, Option, Result, nat_lt, slice_index_or, slice_set}
+use Rattle.std.specs.Prelude.{ℕ, Bool, false, cond, not, List, replicate, Some, None, Ok, Err, Result, nat_lt, slice_index_or, slice_set}
 use Rattle.memory.specs.Protected.{Meaning}
 use Rattle.translation.specs.declared.fault.Fault.{Fault}
 use Rattle.translation.specs.declared.registers.Registers.{Registers}

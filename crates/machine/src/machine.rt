@@ -28,8 +28,8 @@ pub struct Machine<M> {
 
 // Fills a frame with zeros, and then makes it ordinary.
 fn release<M: ProtectedMemory>(memory: &mut M, frame: u64)
-    ensures after { meaning memory.new ≡ marked (zeroed (meaning memory.old) frame) frame Ordinary }
-    ensures keeps { keeps memory.old memory.new }
+    ensures after { M.meaning memory.new ≡ marked (zeroed (M.meaning memory.old) frame) frame Ordinary }
+    ensures keeps { M.keeps memory.old memory.new }
 {
     let _ = zero_frame(memory, frame);
     let _ = memory.set_mark(frame, Mark::Ordinary);
@@ -37,8 +37,8 @@ fn release<M: ProtectedMemory>(memory: &mut M, frame: u64)
 
 // Turns a frame's mark to another. A mark already so changes nothing.
 fn remark<M: ProtectedMemory>(memory: &mut M, frame: u64, mark: Mark)
-    ensures after { meaning memory.new ≡ remarked (meaning memory.old) frame mark }
-    ensures keeps { keeps memory.old memory.new }
+    ensures after { M.meaning memory.new ≡ remarked (M.meaning memory.old) frame mark }
+    ensures keeps { M.keeps memory.old memory.new }
 {
     match (memory.mark(frame), mark) {
         (Ok(Mark::Secure), Mark::Ordinary) => release(memory, frame),

@@ -1,6 +1,5 @@
-use Rattle.std.proofs.Common.{◌≡◌, ◌++◌, vec_items, sym, refl, ap, ◌∙◌, append-nil, rules}
+use Rattle.std.proofs.Common.{◌++◌, vec_items, sym, ap, ◌∙◌, append-nil, rules}
 use Rattle.machine.specs.State.{state_of}
-use Rattle.machine.specs.Runs.{runs}
 use Rattle.machine.proofs.Lists.{run_more, run_done}
 use Rattle.machine.proofs.Isolation.{isolated}
 use Rattle.machine.proofs.machine.Machine.run.Goals as goal
@@ -8,7 +7,7 @@ use Rattle.machine.proofs.machine.Machine.run.Goals as goal
 pub loop-call-preserved : goal.loop-call-preserved
 loop-call-preserved g c =
     let e = run_more _ _ c.args.calls.now c.loop-call.call-index _ _ _ _ c.loop-call-test.true
-    c.call.ensures.steps.answers c.call.ensures.steps.leaves c.push-reserved.ensures.items in
+    c.call.ensures.steps.answers c.call.ensures.steps.leaves c.push_reserved.ensures.items in
     (e.0 ∙ c.loop-call.invariant.0, e.1 ∙ c.loop-call.invariant.1, search rules, search rules, g.M.ProtectedMemory.keeping.then _ _ _ c.loop-call.invariant.4 c.call.ensures.keeps)
 
 pub returns : goal.returns
@@ -23,5 +22,5 @@ returns g c =
       keeps = c.loop-call.invariant.4;
     }
 
-pub returns-in-err-answers : goal.returns-in-err-answers
-returns-in-err-answers g c = record { runs = search rules; isolated = isolated _ _; keeps = g.M.ProtectedMemory.keeping.same _ }
+pub returns-in_err-answers : goal.returns-in_err-answers
+returns-in_err-answers g c = record { runs = search rules; isolated = isolated _ _; keeps = g.M.ProtectedMemory.keeping.same _ }
