@@ -1,5 +1,6 @@
 //! Fault records, and marks.
-use crate::{answers_are, enter, first, load, mark, setup, store, ultravisor};
+use crate::checks::answers_are;
+use crate::{enter, first, load, mark, setup, store, ultravisor};
 use machine::calls::{Answer, Call};
 use machine::refusal::Stop;
 use memory::flat::Flat;

@@ -8,13 +8,13 @@ use machine::refusal::{Refusal, Stop};
 use machine::setup::Setup;
 use memory::protected::{Declined, Mark, ProtectedMemory};
 use std::alloc::{AllocError, Global};
-use std::process::Abort;
-use std::test::Fail;
 use translation::fault::Fault;
 use translation::registers::Context;
 
 #[cfg(test)]
 mod call_tests;
+#[cfg(test)]
+mod checks;
 #[cfg(test)]
 mod refusal_tests;
 #[cfg(test)]
@@ -152,18 +152,6 @@ pub fn mark(thread: u64, frame: u64, mark: Mark) -> Call {
         frame,
         mark,
     }
-}
-
-/// Makes each call, and compares its answer.
-pub fn answers_are<M: ProtectedMemory>(
-    rt: &impl Abort,
-    machine: &mut Machine<M>,
-    steps: &[(Call, Answer)],
-) -> Result<(), Fail> {
-    for (call, answer) in steps {
-        assert_eq!(rt; machine.call(*call), *answer);
-    }
-    Ok(())
 }
 
 /// A load of eight bytes.
