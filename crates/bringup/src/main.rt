@@ -2,7 +2,6 @@
 #![tactic(auto)]
 
 mod nested;
-mod words;
 
 use memory::flat::Flat;
 use memory::paired::Paired;
@@ -78,52 +77,42 @@ fn work<M: ProtectedMemory>(rt: &impl Print, memory: &mut M) -> anyhow::Result<(
     tell_read(rt, memory, 0x2000)
 }
 
-// The buffers that the tour's two flat memories lie over.
-#[derive(Drop)]
+// The buffers that a flat memory lies over.
+#[derive(Clone, PartialEq, Drop)]
 struct Buffers {
-    low: Vec<u8>,
-    low_marks: Vec<u8>,
-    high: Vec<u8>,
-    high_marks: Vec<u8>,
+    bytes: Vec<u8>,
+    marks: Vec<u8>,
 }
 
 impl Buffers {
-    fn new(heap: Global) -> Result<Buffers, AllocError> {
+    fn new(heap: Global, bytes: usize, marks: usize) -> Result<Buffers, AllocError> {
         Ok(Buffers {
-            low: vec![in heap; 0u8; 8192]?,
-            low_marks: vec![in heap; 0u8; 2]?,
-            high: vec![in heap; 0u8; 10000]?,
-            high_marks: vec![in heap; 0u8; 3]?,
+            bytes: vec![in heap; 0u8; bytes]?,
+            marks: vec![in heap; 0u8; marks]?,
         })
     }
 
-    fn copy(&self) -> Result<Buffers, AllocError> {
-        Ok(Buffers {
-            low: self.low.clone()?,
-            low_marks: self.low_marks.clone()?,
-            high: self.high.clone()?,
-            high_marks: self.high_marks.clone()?,
-        })
+    fn memory(&mut self) -> Flat<'_> {
+        Flat {
+            bytes: self.bytes.as_mut_slice(),
+            marks: self.marks.as_mut_slice(),
+        }
     }
+}
 
-    fn is_same(&self, other: &Buffers) -> bool {
-        self.low == other.low
-            && self.low_marks == other.low_marks
-            && self.high == other.high
-            && self.high_marks == other.high_marks
-    }
+// The buffers of the tour's two flat memories.
+#[derive(Clone, PartialEq, Drop)]
+struct Pair {
+    low: Buffers,
+    high: Buffers,
+}
 
+impl Pair {
     // The two memories end to end.
     fn memory(&mut self) -> Paired<Flat<'_>, Flat<'_>> {
         Paired {
-            first: Flat {
-                bytes: self.low.as_mut_slice(),
-                marks: self.low_marks.as_mut_slice(),
-            },
-            second: Flat {
-                bytes: self.high.as_mut_slice(),
-                marks: self.high_marks.as_mut_slice(),
-            },
+            first: self.low.memory(),
+            second: self.high.memory(),
         }
     }
 }
@@ -132,8 +121,11 @@ fn tour(rt: &(impl Print + AllocGlobal)) -> anyhow::Result<()> {
     println!(rt;
         "A protected memory is bytes in frames of 4096, and each frame is ordinary or secure."
     )?;
-    let mut buffers = Buffers::new(rt.alloc())?;
-    let mut memory = buffers.memory();
+    let mut pair = Pair {
+        low: Buffers::new(rt.alloc(), 8192, 2)?,
+        high: Buffers::new(rt.alloc(), 10000, 3)?,
+    };
+    let mut memory = pair.memory();
     tell_size(
         rt,
         "A flat memory over 8192 bytes and 2 mark bytes",
@@ -145,10 +137,10 @@ fn tour(rt: &(impl Print + AllocGlobal)) -> anyhow::Result<()> {
         &memory.second,
     )?;
     work(rt, &mut memory)?;
-    tell_buffers(rt, &buffers)?;
-    let before = buffers.copy()?;
-    tell_declines(rt, &mut buffers.memory())?;
-    if buffers.is_same(&before) {
+    tell_buffers(rt, &pair)?;
+    let before = pair.clone()?;
+    tell_declines(rt, &mut pair.memory())?;
+    if pair == before {
         println!(rt; "No byte and no mark has changed by what was declined.")?;
     } else {
         println!(rt; "What was declined has changed the buffers.")?;
@@ -159,21 +151,16 @@ fn tour(rt: &(impl Print + AllocGlobal)) -> anyhow::Result<()> {
 // Tells accesses through tables in a memory of eight frames.
 fn tell_tables(rt: &impl Print, heap: Global) -> anyhow::Result<()> {
     println!(rt; "Now eight frames, with tables in them.")?;
-    let mut bytes = vec![in heap; 0u8; 32768]?;
-    let mut marks = vec![in heap; 0u8; 8]?;
-    let mut memory = Flat {
-        bytes: bytes.as_mut_slice(),
-        marks: marks.as_mut_slice(),
-    };
-    nested::tell_nested(rt, &mut memory)
+    let mut buffers = Buffers::new(heap, 32768, 8)?;
+    nested::tell_nested(rt, &mut buffers.memory())
 }
 
 // Tells what the caller finds in its own buffers.
-fn tell_buffers(rt: &impl Print, buffers: &Buffers) -> anyhow::Result<()> {
-    let marks = buffers.low_marks.as_slice();
-    let more = buffers.high_marks.as_slice();
+fn tell_buffers(rt: &impl Print, pair: &Pair) -> anyhow::Result<()> {
+    let marks = pair.low.marks.as_slice();
+    let more = pair.high.marks.as_slice();
     println!(rt; "The mark bytes are now {marks:?} and {more:?}.")?;
-    if let Some(first) = buffers.high.first() {
+    if let Some(first) = pair.high.bytes.first() {
         println!(rt; "The second buffer begins with the byte {first:#04x}.")?;
     }
     Ok(())

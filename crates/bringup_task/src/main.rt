@@ -2,8 +2,7 @@
 //! that differ in a secret.
 #![tactic(auto)]
 
-mod contexts;
-mod tables;
+mod scene;
 mod task;
 mod twins;
 mod words;

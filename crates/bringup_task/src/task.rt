@@ -1,12 +1,12 @@
 //! The task: an ultravisor makes a frame secure for a guest, a hypervisor is refused it, and the frame is released.
-use crate::contexts::{GUEST, HYPERVISOR, ULTRAVISOR, secure_guest, ultravisor};
-use crate::tables::{PTCR, SECRET_AT, SECRET_FRAME, TABLES};
+use crate::scene::{GUEST, HYPERVISOR, SECRET_AT, ULTRAVISOR, enter, load_secret, mark_secret};
 use crate::words;
 use machine::calls::Call;
 use machine::machine::Machine;
 use machine::setup::Setup;
 use memory::flat::Flat;
 use memory::protected::{Mark, ProtectedMemory};
+use reference::{PTCR, SECURE_USER, TABLES, leaf_bits};
 use std::alloc::Global;
 
 // Sets up a machine: one image that is refused, and then those of the task.
@@ -34,20 +34,10 @@ fn tell_call<M: ProtectedMemory>(
     words::tell_answer(rt, &answer)
 }
 
-// The reference and change bits of a leaf, in words.
-fn of_bits(leaf: u64) -> &'static str {
-    match (leaf >> 7) % 4 {
-        0 => "neither referenced nor changed",
-        1 => "changed",
-        2 => "referenced",
-        _ => "referenced and changed",
-    }
-}
-
 // Tells the leaves of both trees, as they stand in the memory.
 fn tell_leaves<M: ProtectedMemory>(rt: &impl Print, memory: &M) -> anyhow::Result<()> {
-    let process = of_bits(memory.read(0x6000)?);
-    let partition = of_bits(memory.read(0x2000)?);
+    let process = leaf_bits(memory.read(0x6000)?);
+    let partition = leaf_bits(memory.read(0x2000)?);
     println!(rt;
         "The leaf of the process's tree is {process}, of the partition's tree {partition}."
     )?;
@@ -56,11 +46,12 @@ fn tell_leaves<M: ProtectedMemory>(rt: &impl Print, memory: &M) -> anyhow::Resul
 
 // The ultravisor writes the tables and a secret, and makes the secret's frame secure.
 fn prepare<M: ProtectedMemory>(rt: &impl Print, machine: &mut Machine<M>) -> anyhow::Result<()> {
-    let enter = Call::Enter {
-        thread: ULTRAVISOR,
-        context: ultravisor(),
-    };
-    tell_call(rt, machine, "Thread 0 becomes the ultravisor", enter)?;
+    tell_call(
+        rt,
+        machine,
+        "Thread 0 becomes the ultravisor",
+        enter(ULTRAVISOR, reference::ULTRAVISOR),
+    )?;
     println!(rt; "It writes the tables of partition 1 and its process 1.")?;
     for (addr, value) in TABLES {
         if let Err(stop) = machine.store(ULTRAVISOR, 8, addr, 0, value) {
@@ -79,53 +70,35 @@ fn prepare<M: ProtectedMemory>(rt: &impl Print, machine: &mut Machine<M>) -> any
         rt,
         machine,
         "It makes frame 5 secure",
-        mark(ULTRAVISOR, Mark::Secure),
+        mark_secret(ULTRAVISOR, Mark::Secure),
     )
-}
-
-// A call that marks the secret's frame.
-fn mark(thread: u64, mark: Mark) -> Call {
-    Call::Mark {
-        thread,
-        frame: SECRET_FRAME,
-        mark,
-    }
-}
-
-// A load of the secret.
-fn load(thread: u64) -> Call {
-    Call::Load {
-        thread,
-        width: 8,
-        base: SECRET_AT,
-        index: 0,
-    }
 }
 
 // The guest reads the secret; the hypervisor is refused it.
 fn use_frame<M: ProtectedMemory>(rt: &impl Print, machine: &mut Machine<M>) -> anyhow::Result<()> {
-    let enter = Call::Enter {
-        thread: GUEST,
-        context: secure_guest(),
-    };
     tell_call(
         rt,
         machine,
         "Thread 1 becomes a secure guest of partition 1",
-        enter,
+        enter(GUEST, SECURE_USER),
     )?;
     tell_leaves(rt, machine.memory())?;
-    tell_call(rt, machine, "The guest loads the secret", load(GUEST))?;
+    tell_call(
+        rt,
+        machine,
+        "The guest loads the secret",
+        load_secret(GUEST),
+    )?;
     tell_leaves(rt, machine.memory())?;
     tell_call(
         rt,
         machine,
         "Thread 2, a hypervisor, loads the same frame",
-        load(HYPERVISOR),
+        load_secret(HYPERVISOR),
     )?;
     let report = Call::Report { thread: HYPERVISOR };
     tell_call(rt, machine, "It reads its fault record", report)?;
-    let take = mark(HYPERVISOR, Mark::Ordinary);
+    let take = mark_secret(HYPERVISOR, Mark::Ordinary);
     tell_call(rt, machine, "It tries to make the frame ordinary", take)
 }
 
@@ -142,7 +115,7 @@ pub fn tell_task(rt: &impl Print, heap: Global) -> anyhow::Result<()> {
     println!(rt; "Started over eight frames; each thread is a hypervisor in real mode.")?;
     prepare(rt, &mut machine)?;
     use_frame(rt, &mut machine)?;
-    let release = mark(ULTRAVISOR, Mark::Ordinary);
+    let release = mark_secret(ULTRAVISOR, Mark::Ordinary);
     tell_call(
         rt,
         &mut machine,
@@ -153,6 +126,6 @@ pub fn tell_task(rt: &impl Print, heap: Global) -> anyhow::Result<()> {
         rt,
         &mut machine,
         "Now the hypervisor's load goes through",
-        load(HYPERVISOR),
+        load_secret(HYPERVISOR),
     )
 }

@@ -1,39 +1,24 @@
 //! The same list of calls on two machines that differ only in a secret.
-use crate::contexts::{GUEST, HYPERVISOR, ULTRAVISOR, secure_guest, ultravisor};
-use crate::tables::{PTCR, SECRET_AT, SECRET_FRAME, TABLES};
+use crate::scene::{
+    GUEST, HYPERVISOR, SECRET_AT, SECRET_FRAME, ULTRAVISOR, enter, load_secret, mark_secret,
+};
 use crate::words;
 use machine::calls::{Answer, Call};
 use machine::setup::Setup;
 use memory::flat::Flat;
 use memory::protected::{Declined, Mark, ProtectedMemory};
+use reference::{PTCR, SECURE_USER, TABLES, lay};
 use std::alloc::Global;
 
 // The list: the guest reads its secret, and the hypervisor tries to learn of it.
 fn calls() -> [Call; 10] {
-    let probe = Call::Load {
-        thread: HYPERVISOR,
-        width: 8,
-        base: SECRET_AT,
-        index: 0,
-    };
-    let report = Call::Report { thread: HYPERVISOR };
+    let probe = load_secret(HYPERVISOR);
     [
-        Call::Enter {
-            thread: ULTRAVISOR,
-            context: ultravisor(),
-        },
-        Call::Enter {
-            thread: GUEST,
-            context: secure_guest(),
-        },
-        Call::Load {
-            thread: GUEST,
-            width: 8,
-            base: SECRET_AT,
-            index: 0,
-        },
+        enter(ULTRAVISOR, reference::ULTRAVISOR),
+        enter(GUEST, SECURE_USER),
+        load_secret(GUEST),
         probe,
-        report,
+        Call::Report { thread: HYPERVISOR },
         Call::Store {
             thread: HYPERVISOR,
             width: 1,
@@ -52,33 +37,28 @@ fn calls() -> [Call; 10] {
             base: SECRET_AT,
             index: 0,
         },
-        Call::Mark {
-            thread: ULTRAVISOR,
-            frame: SECRET_FRAME,
-            mark: Mark::Ordinary,
-        },
+        mark_secret(ULTRAVISOR, Mark::Ordinary),
         probe,
     ]
 }
 
 // Writes the tables and a secret, and marks the secret's frame.
-fn lay<M: ProtectedMemory>(memory: &mut M, secret: u64) -> Result<(), Declined> {
-    for (addr, value) in TABLES {
-        memory.write(addr, value)?;
-    }
+fn prepare<M: ProtectedMemory>(memory: &mut M, secret: u64) -> Result<(), Declined> {
+    lay(memory, &TABLES)?;
     memory.write(SECRET_AT, secret)?;
     memory.set_mark(SECRET_FRAME, Mark::Secure)
 }
 
 // Runs the list on a machine with a secret, and gives every answer.
 fn run(heap: Global, secret: u64) -> anyhow::Result<Vec<Answer>> {
+    // As in the task: a struct of both buffers, shared, would be longer.
     let mut bytes = vec![in heap; 0u8; 32768]?;
     let mut marks = vec![in heap; 0u8; 8]?;
     let mut memory = Flat {
         bytes: bytes.as_mut_slice(),
         marks: marks.as_mut_slice(),
     };
-    lay(&mut memory, secret)?;
+    prepare(&mut memory, secret)?;
     let mut setup = Setup::new();
     setup.set_ptcr(PTCR)?;
     setup.set_facility(true);
@@ -88,10 +68,7 @@ fn run(heap: Global, secret: u64) -> anyhow::Result<Vec<Answer>> {
 
 // Whether a call is an access of the secure guest, which ordinary threads do not see.
 fn of_guest(call: &Call) -> bool {
-    match call {
-        Call::Load { thread, .. } => *thread == GUEST,
-        _ => false,
-    }
+    matches!(call, Call::Load { thread: GUEST, .. })
 }
 
 /// Runs the list twice and tells what the two runs have in common.

@@ -1,51 +1,21 @@
-//! Faults and answers in words.
+//! Faults and answers in words. Functions, and no `Display`: they tell more than the types' own does, and for another one
+//! each of these types, which are the machine's, would need a wrapper.
 use machine::calls::Answer;
 use machine::refusal::{Refusal, Stop};
-use translation::fault::{Cause, Fault, Layer, Purpose};
-
-// Why an access stopped.
-fn of_cause(cause: Cause) -> &'static str {
-    match cause {
-        Cause::Segment => "no segment",
-        Cause::Index => "an index outside its table",
-        Cause::Unsupported => "an unsupported form",
-        Cause::Invalid => "no valid entry",
-        Cause::Right => "a missing right",
-        Cause::SettlingRight => "a missing right to settle the process leaf",
-        Cause::Secure => "a secure frame",
-        Cause::Beyond => "an address beyond the memory",
-    }
-}
-
-// Where it stopped.
-fn of_layer(layer: Layer) -> &'static str {
-    match layer {
-        Layer::Process => "in the process's tables",
-        Layer::Partition => "in the partition's tables",
-        Layer::Storage => "at the storage itself",
-    }
-}
-
-// What it was looking for.
-fn of_purpose(purpose: Purpose) -> &'static str {
-    match purpose {
-        Purpose::Datum => "the datum",
-        Purpose::PartitionEntry => "the partition's entry",
-        Purpose::ProcessEntry => "the process's entry",
-        Purpose::ProcessTree => "an entry of the process's tree",
-        Purpose::Settling => "the process leaf, to settle it",
-    }
-}
+use translation::fault::Fault;
 
 /// Tells a fault: its cause, layer and purpose, where it stopped, and its vector.
 pub fn tell_fault(rt: &impl Print, fault: &Fault) -> anyhow::Result<()> {
-    let cause = of_cause(fault.cause);
-    let layer = of_layer(fault.layer);
-    let purpose = of_purpose(fault.purpose);
-    let why = fault.cause.number();
-    let ea = fault.ea;
-    let real = fault.real;
-    let vector = fault.vector;
+    let Fault {
+        cause,
+        layer,
+        purpose,
+        ea,
+        real,
+        vector,
+        ..
+    } = *fault;
+    let why = u64::from(cause);
     println!(rt; "  a fault: {cause} (cause {why}), {layer}, on the way to {purpose};")?;
     println!(rt; "  effective address {ea:#06x}, real address {real:#06x}, vector {vector:#x}.")?;
     Ok(())
@@ -77,10 +47,10 @@ pub fn tell_answer(rt: &impl Print, answer: &Answer) -> anyhow::Result<()> {
         )?,
         Answer::Reported(Ok(None)) => println!(rt; "  no fault.")?,
         Answer::Reported(Ok(Some(fault))) => return tell_fault(rt, fault),
-        Answer::Done(Err(refusal)) => return tell_refusal(rt, *refusal),
-        Answer::Reported(Err(refusal)) => return tell_refusal(rt, *refusal),
-        Answer::Loaded(Err(stop)) => return tell_stop(rt, stop),
-        Answer::Stored(Err(stop)) => return tell_stop(rt, stop),
+        Answer::Done(Err(refusal)) | Answer::Reported(Err(refusal)) => {
+            return tell_refusal(rt, *refusal);
+        }
+        Answer::Loaded(Err(stop)) | Answer::Stored(Err(stop)) => return tell_stop(rt, stop),
     }
     Ok(())
 }

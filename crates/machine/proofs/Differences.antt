@@ -1,5 +1,5 @@
 -- Where two readings agree everywhere, nothing differs. Assumes nothing.
-use Rattle.std.proofs.Common.{◌≡◌, ℕ, zero, suc, ◌+◌, ◌/◌, Bool, true, false, cond, not, ◌&&◌, ◌||◌, eqb, ltb, List, [], ◌∷◌, length, get_or, Option, sym, refl, ap, ◌∙◌, arith}
+use Rattle.std.proofs.Common.{◌≡◌, ℕ, zero, suc, ◌+◌, ◌/◌, Bool, true, false, if◌then◌else◌, not, ◌&&◌, ◌||◌, eqb, ltb, List, [], ◌∷◌, length, get_or, Option, sym, refl, ap, ◌∙◌, arith}
 use Rattle.std.proofs.lemmas.Bool.{eq-eqb, and_from}
 use Rattle.memory.specs.declared.protected.Mark.{Mark}
 use Rattle.memory.specs.declared.protected.Mark.TheVariants.{Ordinary}
@@ -20,7 +20,7 @@ differing_none f g zero each = refl
 differing_none f g (suc n) each =
     let e : same (f n) (g n) ≡ true = ap (same (f n)) (sym (each n)) ∙ same_itself (f n) in
     let none = differing_none f g n each in
-    ap (λ (b : Bool). differing f g n + cond b 0 1) e ∙ omega arith
+    ap (λ (b : Bool). differing f g n + (if b then 0 else 1)) e ∙ omega arith
 
 -- a byte is read alike where it is the same, if it is read at all
 read_same : (inside shown : Bool) (x y : ℕ) → (shown ≡ true → x ≡ y) → reading (inside && shown) x ≡ reading (inside && shown) y
@@ -30,15 +30,15 @@ read_same false shown x y e = refl
 
 -- whether the frame of an address is secure, by the marks alone
 abbrev pub secure_in : List Mark → ℕ → Bool
-secure_in ms f = cond (ltb f (length ms)) (is_secure (get_or ms f Ordinary)) false
+secure_in ms f = if ltb f (length ms) then is_secure (get_or ms f Ordinary) else false
 
 marks_same : (s u : State) → s.memory.marks ≡ u.memory.marks → (f : ℕ) → mark_read s f ≡ mark_read u f
 marks_same s u e f = λ i. reading (ltb f (length (e i))) (number_of (get_or (e i) f Ordinary))
 
-faults_same : (c d : Context) (f g : Option Fault) → c ≡ d → (c.s ≡ false → f ≡ g) → cond c.s [] (fault_numbers f) ≡ cond d.s [] (fault_numbers g)
-faults_same c d f g e h = go c.s refl ∙ ap (λ (x : Context). cond x.s [] (fault_numbers g)) e
+faults_same : (c d : Context) (f g : Option Fault) → c ≡ d → (c.s ≡ false → f ≡ g) → (if c.s then [] else fault_numbers f) ≡ (if d.s then [] else fault_numbers g)
+faults_same c d f g e h = go c.s refl ∙ ap (λ (x : Context). (if x.s then [] else fault_numbers g)) e
   where
-    go : (b : Bool) → c.s ≡ b → cond b [] (fault_numbers f) ≡ cond b [] (fault_numbers g)
+    go : (b : Bool) → c.s ≡ b → (if b then [] else fault_numbers f) ≡ (if b then [] else fault_numbers g)
     go true q = refl
     go false q = ap fault_numbers (h q)
 

@@ -1,5 +1,5 @@
 -- Ordinary threads learn nothing and alter nothing, over whole lists of calls. Assumes nothing.
-use Rattle.std.proofs.Common.{◌≡◌, suc, Bool, true, false, cond, List, [], ◌∷◌, length, sym, refl, ap, ◌∙◌, subst, arith}
+use Rattle.std.proofs.Common.{◌≡◌, suc, Bool, true, false, if◌then◌else◌, List, [], ◌∷◌, length, sym, refl, ap, ◌∙◌, subst, arith}
 use Rattle.memory.specs.Protected.{Meaning}
 use Rattle.translation.specs.declared.registers.Registers.{Registers}
 use Rattle.machine.specs.declared.calls.Call.{Call}
@@ -98,7 +98,7 @@ alters_nothing (c ∷ cs) s on =
     let here = go (ordinary_thread s (caller c)) refl in
     omega arith
   where
-    go : (b : Bool) → ordinary_thread s (caller c) ≡ b → cond b (secret_differences s (next s c)) 0 ≡ 0
+    go : (b : Bool) → ordinary_thread s (caller c) ≡ b → (if b then secret_differences s (next s c) else 0) ≡ 0
     go true o = let k = step_kept s c on o in secret_same s (next s c) k.marks k.size k.bytes
     go false o = refl
 

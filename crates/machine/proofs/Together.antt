@@ -1,13 +1,13 @@
 -- One call: on two states that are alike, of a secure thread, and of an ordinary thread. Assumes nothing.
-use Rattle.std.proofs.Common.{◌≡◌, ℕ, zero, suc, ◌+◌, ◌*◌, ◌/◌, ◌<◌, ◌≤◌, Bool, true, false, cond, not, ◌&&◌, ◌||◌, ltb, ◌⊎◌, List, [], ◌∷◌, length, get_or, set, replicate, None, Ok, Err, Option, Result, sym, refl, ap, ◌∙◌, subst, inl, inr, arith, length-set, get_or-set_other}
+use Rattle.std.proofs.Common.{◌≡◌, ℕ, zero, suc, ◌+◌, ◌*◌, ◌/◌, ◌<◌, ◌≤◌, Bool, true, false, if◌then◌else◌, not, ◌&&◌, ◌||◌, ltb, ◌⊎◌, List, [], ◌∷◌, length, get_or, set, replicate, None, Ok, Err, Option, Result, sym, refl, ap, ◌∙◌, subst, inl, inr, arith, length-set, get_or-set_other}
 use mathlib.Core.Bool.{false≢true}
 use lib.ListN.{length-replicate}
-use Rattle.std.proofs.lemmas.Bool.{and_parts, and_from, not_from_false, not-true, or_cases, or_left, or_right, cases_lt, lt-ltb, le-ltb, cond-true, cond-false}
+use Rattle.std.proofs.lemmas.Bool.{and_parts, and_from, not_from_false, not-true, or_cases, or_left, or_right, cases_lt, lt-ltb, le-ltb, cond-true, cond-false, cond_both}
 use Rattle.std.proofs.lemmas.List.{get_or_past}
 use Rattle.memory.specs.declared.protected.Mark.{Mark as Marking}
 use Rattle.memory.specs.declared.protected.Mark.TheVariants.{Ordinary, Secure}
 use Rattle.memory.specs.Bytes.{over}
-use Rattle.memory.specs.Protected.{Meaning, has_frame, is_secure, marked, zeroed}
+use Rattle.memory.specs.Protected.{Meaning, has_frame, is_secure}
 use Rattle.memory.proofs.Lists.{length_over, over_both}
 use Rattle.translation.specs.declared.fault.Fault.{Fault}
 use Rattle.translation.specs.declared.registers.Registers.{Registers}
@@ -19,15 +19,15 @@ use Rattle.translation.specs.Access.{accessed}
 use Rattle.translation.specs.Alike.{Kept}
 use Rattle.translation.proofs.Accesses.{access_isolated, access_marks, access_size}
 use Rattle.machine.specs.declared.refusal.Refusal.{Refusal}
-use Rattle.machine.specs.declared.refusal.Refusal.TheVariants.{NoThread, BadContext, NotUltravisor, NoFrame}
+use Rattle.machine.specs.declared.refusal.Refusal.TheVariants.{NoThread}
 use Rattle.machine.specs.declared.threads.Thread.{Thread}
 use Rattle.machine.specs.declared.calls.Call.{Call}
 use Rattle.machine.specs.declared.calls.Call.TheVariants.{Enter, Load, Store, Fetch, Mark, Report}
 use Rattle.machine.specs.declared.calls.Answer.{Answer}
-use Rattle.machine.specs.declared.calls.Answer.TheVariants.{Done, Reported}
+use Rattle.machine.specs.declared.calls.Answer.TheVariants.{Reported}
 use Rattle.machine.specs.Contexts.{is_ultravisor, allowed}
-use Rattle.machine.specs.State.{State, thread_at, thread_of, with_thread, with_memory, same_side, entering, faulting}
-use Rattle.machine.specs.Calls.{caller, Request, loaded, stored, recorded, concluded, access_of, load_of, store_of, fetch_of, turned, remarked, taken, by_thread, step}
+use Rattle.machine.specs.State.{State, thread_at, thread_of, same_side, entering, faulting}
+use Rattle.machine.specs.Calls.{caller, Request, loaded, stored, recorded, concluded, access_of, load_of, store_of, fetch_of, turned, remarked, entered, marking, taken, by_thread, step}
 use Rattle.machine.specs.Isolation.{Alike, AlikeMemories, in_table, visible, secure_thread, ordinary_thread, is_access, struck, next}
 use Rattle.machine.proofs.Differences.{secure_in}
 use Rattle.machine.proofs.Likeness.{for_access, of_access, alike_same, Like, like_set, like_one, likes}
@@ -36,11 +36,6 @@ use Rattle.machine.proofs.Likeness.{for_access, of_access, alike_same, Like, lik
 pub record Both (o p : Answer × State) : Type 0 where
   pub answer : o.0 ≡ p.0
   pub state : Alike o.1 p.1
-
--- what holds of both ends of a choice holds of it
-either : (P : Answer × State → Type 0) (b : Bool) (o p : Answer × State) → P o → P p → P (cond b o p)
-either P true o p x y = x
-either P false o p x y = y
 
 -- ---- marks
 -- whether a frame is secure, with no test for the end of the list
@@ -69,7 +64,17 @@ module _ (r : Registers) (m n : Meaning) (h : AlikeMemories r m n) (f : ℕ) whe
         | inr t ↦ or_right _ _ t
       ]
 
-  secured_both : AlikeMemories r (record { bytes = m.bytes; marks = set m.marks f Secure }) (record { bytes = n.bytes; marks = set n.marks f Secure })
+  -- the marks set secure, or the bytes zeroed and the marks set ordinary, where the frame is there
+  abbrev secured : Bool → Meaning → Meaning
+  secured there o = record { bytes = o.bytes; marks = if there then set o.marks f Secure else o.marks }
+
+  abbrev zeros : List ℕ → List ℕ
+  zeros bs = over bs (f * 4096) (replicate 4096 0)
+
+  abbrev released : Bool → Meaning → Meaning
+  released there o = record { bytes = if there then zeros o.bytes else o.bytes; marks = if there then set o.marks f Ordinary else o.marks }
+
+  secured_both : AlikeMemories r (secured true m) (secured true n)
   secured_both =
       record {
         marks = ap (λ (ms : List Marking). set ms f Secure) h.marks;
@@ -78,10 +83,7 @@ module _ (r : Registers) (m n : Meaning) (h : AlikeMemories r m n) (f : ℕ) whe
             (λ o. secure_is m.marks (a / 4096) ∙ set_secure m.marks f (a / 4096) (sym (secure_is (set m.marks f Secure) (a / 4096)) ∙ o)) v);
       }
 
-  abbrev zeros : List ℕ → List ℕ
-  zeros bs = over bs (f * 4096) (replicate 4096 0)
-
-  released_both : AlikeMemories r (record { bytes = zeros m.bytes; marks = set m.marks f Ordinary }) (record { bytes = zeros n.bytes; marks = set n.marks f Ordinary })
+  released_both : AlikeMemories r (released true m) (released true n)
   released_both =
       record {
         marks = ap (λ (ms : List Marking). set ms f Ordinary) h.marks;
@@ -100,23 +102,14 @@ module _ (r : Registers) (m n : Meaning) (h : AlikeMemories r m n) (f : ℕ) whe
   has_same : has_frame m f ≡ has_frame n f
   has_same = ap (λ (ms : List Marking). ltb f (length ms)) h.marks
 
+  there_both : (change : Bool → Meaning → Meaning) → ((there : Bool) → AlikeMemories r (change there m) (change there n))
+      → AlikeMemories r (change (has_frame m f) m) (change (has_frame n f) n)
+  there_both change each = subst (λ (there : Bool). AlikeMemories r (change (has_frame m f) m) (change there n)) has_same (each (has_frame m f))
+
   turned_both : (old k : Marking) → AlikeMemories r (turned m f old k) (turned n f old k)
   turned_both Ordinary Ordinary = h
-  turned_both Ordinary Secure =
-      subst (λ (b : Bool). AlikeMemories r (marked m f Secure) (record { bytes = n.bytes; marks = cond b (set n.marks f Secure) n.marks })) has_same (go (has_frame m f))
-    where
-      go : (b : Bool) → AlikeMemories r (record { bytes = m.bytes; marks = cond b (set m.marks f Secure) m.marks })
-          (record { bytes = n.bytes; marks = cond b (set n.marks f Secure) n.marks })
-      go true = secured_both
-      go false = h
-  turned_both Secure Ordinary =
-      subst (λ (b : Bool). AlikeMemories r (marked (zeroed m f) f Ordinary)
-      (record { bytes = cond b (zeros n.bytes) n.bytes; marks = cond b (set n.marks f Ordinary) n.marks })) has_same (go (has_frame m f))
-    where
-      go : (b : Bool) → AlikeMemories r (record { bytes = cond b (zeros m.bytes) m.bytes; marks = cond b (set m.marks f Ordinary) m.marks })
-          (record { bytes = cond b (zeros n.bytes) n.bytes; marks = cond b (set n.marks f Ordinary) n.marks })
-      go true = released_both
-      go false = h
+  turned_both Ordinary Secure = there_both secured (elim [ true ↦ secured_both | false ↦ h ])
+  turned_both Secure Ordinary = there_both released (elim [ true ↦ released_both | false ↦ h ])
   turned_both Secure Secure = h
 
   remarked_both : (k : Marking) → AlikeMemories r (remarked m f k) (remarked n f k)
@@ -176,48 +169,40 @@ module _ (r : Registers) (xs ys : List Thread) (m n : Meaning) (h : Alike (state
   entered_like x y c l =
       record {
         context = refl;
-        fault = λ o. go x.context.s refl o ∙ ap (λ (d : Context). cond (same_side d.s c.s) y.fault None) l.context;
+        fault = λ o. go x.context.s refl o ∙ ap (λ (d : Context). (if same_side d.s c.s then y.fault else None)) l.context;
       }
     where
-      go : (b : Bool) → x.context.s ≡ b → c.s ≡ false → cond (same_side b c.s) x.fault None ≡ cond (same_side b c.s) y.fault None
-      go true e o = subst (λ (d : Bool). cond d x.fault None ≡ cond d y.fault None) (sym o) refl
-      go false e o = ap (λ (f : Option Fault). cond (not c.s) f None) (l.fault e)
+      go : (b : Bool) → x.context.s ≡ b → c.s ≡ false → (if same_side b c.s then x.fault else None) ≡ (if same_side b c.s then y.fault else None)
+      go true e o = subst (λ (d : Bool). (if d then x.fault else None) ≡ (if d then y.fault else None)) (sym o) refl
+      go false e o = ap (λ (f : Option Fault). (if not c.s then f else None)) (l.fault e)
+
+  entered_both : (may : Bool) (t : ℕ) (c : Context) → Both (entered may (state r xs m) t c) (entered may (state r ys n) t c)
+  entered_both true t c = record { answer = refl; state = put_both t _ _ m n (entered_like (thread_at xs t) (thread_at ys t) c (likes (state r xs m) (state r ys n) h t)) h.memory }
+  entered_both false t c = record { answer = refl; state = h }
+
+  marking_both : (may there : Bool) (f : ℕ) (k : Marking) → Both (marking may there (state r xs m) f k) (marking may there (state r ys n) f k)
+  marking_both true true f k = record { answer = refl; state = held_both _ _ (remarked_both r m n h.memory f k) }
+  marking_both true false f k = record { answer = refl; state = h }
+  marking_both false there f k = record { answer = refl; state = h }
 
   taken_both : (c : Call) → ltb (caller c) 8 ≡ true → struck (state r xs m) c ≡ false → Both (taken (state r xs m) c) (taken (state r ys n) c)
-  taken_both (Enter t c) l s = go (allowed r c)
-    where
-      go : (b : Bool) → Both (cond b (Done (Ok tt), with_thread (state r xs m) t (entering (thread_at xs t) c)) (Done (Err BadContext), state r xs m))
-          (cond b (Done (Ok tt), with_thread (state r ys n) t (entering (thread_at ys t) c)) (Done (Err BadContext), state r ys n))
-      go true = record { answer = refl; state = put_both t _ _ m n (entered_like (thread_at xs t) (thread_at ys t) c (likes (state r xs m) (state r ys n) h t)) h.memory }
-      go false = record { answer = refl; state = h }
+  taken_both (Enter t c) l s = entered_both (allowed r c) t c
   taken_both (Load t w b i) l s = access_both (Load t w b i) loaded (load_of (asked w b i)) (not_secure t (thread_at xs t).context.s l s)
   taken_both (Store t w b i v) l s = access_both (Store t w b i v) stored (store_of (asked w b i) v) (not_secure t (thread_at xs t).context.s l s)
   taken_both (Fetch t b i) l s = access_both (Fetch t b i) loaded (fetch_of (fetched b i)) (not_secure t (thread_at xs t).context.s l s)
   taken_both (Mark t f k) l s =
-      subst (λ (y : Context). Both (taken (state r xs m) (Mark t f k)) (cond (is_ultravisor y)
-      (cond (has_frame n f) (Done (Ok tt), with_memory (state r ys n) (remarked n f k)) (Done (Err NoFrame), state r ys n)) (Done (Err NotUltravisor), state r ys n)))
-      (h.contexts t) (go (is_ultravisor (thread_at xs t).context))
-    where
-      framed : (b : Bool) → Both (cond b (Done (Ok tt), with_memory (state r xs m) (remarked m f k)) (Done (Err NoFrame), state r xs m))
-          (cond b (Done (Ok tt), with_memory (state r ys n) (remarked n f k)) (Done (Err NoFrame), state r ys n))
-      framed true = record { answer = refl; state = held_both _ _ (remarked_both r m n h.memory f k) }
-      framed false = record { answer = refl; state = h }
-
-      go : (b : Bool) → Both
-          (cond b (cond (has_frame m f) (Done (Ok tt), with_memory (state r xs m) (remarked m f k)) (Done (Err NoFrame), state r xs m)) (Done (Err NotUltravisor), state r xs m))
-          (cond b (cond (has_frame n f) (Done (Ok tt), with_memory (state r ys n) (remarked n f k)) (Done (Err NoFrame), state r ys n)) (Done (Err NotUltravisor), state r ys n))
-      go true =
-          subst (λ (b : Bool). Both (cond (has_frame m f) (Done (Ok tt), with_memory (state r xs m) (remarked m f k)) (Done (Err NoFrame), state r xs m))
-          (cond b (Done (Ok tt), with_memory (state r ys n) (remarked n f k)) (Done (Err NoFrame), state r ys n)))
-          (has_same r m n h.memory f) (framed (has_frame m f))
-      go false = record { answer = refl; state = h }
+      let may = is_ultravisor (thread_at xs t).context in
+      let here = has_frame m f in
+      subst (λ (y : Context). Both (marking may here (state r xs m) f k) (marking (is_ultravisor y) (has_frame n f) (state r ys n) f k)) (h.contexts t)
+      (subst (λ (there : Bool). Both (marking may here (state r xs m) f k) (marking may there (state r ys n) f k)) (has_same r m n h.memory f)
+      (marking_both may here f k))
   taken_both (Report t) l s = record { answer = ap (λ (f : Option Fault). Reported (Ok f)) (h.faults t (not_secure t (thread_at xs t).context.s l s)); state = h }
 
   step_both : (c : Call) → struck (state r xs m) c ≡ false → Both (step (state r xs m) c) (step (state r ys n) c)
   step_both c s = go (ltb (caller c) 8) refl
     where
-      go : (b : Bool) → ltb (caller c) 8 ≡ b → Both (by_thread (state r xs m) c (cond b (Ok (thread_at xs (caller c))) (Err NoThread)))
-          (by_thread (state r ys n) c (cond b (Ok (thread_at ys (caller c))) (Err NoThread)))
+      go : (b : Bool) → ltb (caller c) 8 ≡ b → Both (by_thread (state r xs m) c (if b then Ok (thread_at xs (caller c)) else Err NoThread))
+          (by_thread (state r ys n) c (if b then Ok (thread_at ys (caller c)) else Err NoThread))
       go true l = taken_both c l s
       go false l = record { answer = refl; state = h }
 
@@ -286,17 +271,13 @@ access_kept s c tell (Ok q) on o =
     (access_isolated s.registers x s.memory q.ask q.width q.address (confined_on s.registers x on o)).1
 
 taken_kept : (s : State) (c : Call) → s.registers.facility ≡ true → (thread_at s.threads (caller c)).context.s ≡ false → Kept s.memory (taken s c).1.memory
-taken_kept s (Enter t c) on o = either (λ p. Kept s.memory p.1.memory) (allowed s.registers c) _ _ (kept_same s.memory) (kept_same s.memory)
+taken_kept s (Enter t c) on o = cond_both (allowed s.registers c) _ _ (λ (p : Answer × State). Kept s.memory p.1.memory) (λ _. kept_same s.memory) (λ _. kept_same s.memory)
 taken_kept s (Load t w b i) on o = access_kept s (Load t w b i) loaded (load_of (asked w b i)) on o
 taken_kept s (Store t w b i v) on o = access_kept s (Store t w b i v) stored (store_of (asked w b i) v) on o
 taken_kept s (Fetch t b i) on o = access_kept s (Fetch t b i) loaded (fetch_of (fetched b i)) on o
-taken_kept s (Mark t f k) on o = subst (λ (b : Bool). Kept s.memory (marking b).1.memory) (sym o) (kept_same s.memory)
-  where
-    marking : Bool → Answer × State
-    marking b =
-        cond (b && (thread_at s.threads t).context.hv)
-        (cond (has_frame s.memory f) (Done (Ok tt), with_memory s (remarked s.memory f k)) (Done (Err NoFrame), s))
-        (Done (Err NotUltravisor), s)
+taken_kept s (Mark t f k) on o =
+    let hv = (thread_at s.threads t).context.hv in
+    subst (λ (b : Bool). Kept s.memory (marking (b && hv) (has_frame s.memory f) s f k).1.memory) (sym o) (kept_same s.memory)
 taken_kept s (Report t) on o = kept_same s.memory
 
 pub step_kept : (s : State) (c : Call) → s.registers.facility ≡ true → ordinary_thread s (caller c) ≡ true → Kept s.memory (next s c).memory
@@ -312,13 +293,13 @@ access_registers s c tell (Ok q) = refl
 access_registers s c tell (Err e) = refl
 
 taken_registers : (s : State) (c : Call) → (taken s c).1.registers ≡ s.registers
-taken_registers s (Enter t c) = either (λ p. p.1.registers ≡ s.registers) (allowed s.registers c) _ _ refl refl
+taken_registers s (Enter t c) = cond_both (allowed s.registers c) _ _ (λ (p : Answer × State). p.1.registers ≡ s.registers) (λ _. refl) (λ _. refl)
 taken_registers s (Load t w b i) = access_registers s (Load t w b i) loaded (load_of (asked w b i))
 taken_registers s (Store t w b i v) = access_registers s (Store t w b i v) stored (store_of (asked w b i) v)
 taken_registers s (Fetch t b i) = access_registers s (Fetch t b i) loaded (fetch_of (fetched b i))
 taken_registers s (Mark t f k) =
     let P : Answer × State → Type 0 = λ p. p.1.registers ≡ s.registers in
-    either P (is_ultravisor (thread_at s.threads t).context) _ _ (either P (has_frame s.memory f) _ _ refl refl) refl
+    cond_both (is_ultravisor (thread_at s.threads t).context) _ _ P (λ _. cond_both (has_frame s.memory f) _ _ P (λ _. refl) (λ _. refl)) (λ _. refl)
 taken_registers s (Report t) = refl
 
 pub registers_stay : (s : State) (c : Call) → (next s c).registers ≡ s.registers

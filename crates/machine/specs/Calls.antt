@@ -1,9 +1,10 @@
 -- What each call answers, and the state after it. Assumes nothing.
-use Rattle.std.specs.Prelude.{◌≡◌, ℕ, cond, List, Ok, Err, Result, slice_index_or, slice_set}
+use Rattle.std.specs.Prelude.{◌≡◌, ℕ, Bool, if◌then◌else◌, List, Ok, Err, Result, slice_index_or, slice_set}
 use Rattle.memory.specs.declared.protected.Mark.{Mark as Marking}
 use Rattle.memory.specs.declared.protected.Mark.TheVariants.{Ordinary, Secure}
 use Rattle.memory.specs.Protected.{Meaning, has_frame, marked, zeroed}
 use Rattle.translation.specs.declared.fault.Fault.{Fault}
+use Rattle.translation.specs.declared.registers.Context.{Context}
 use Rattle.translation.specs.declared.widths.Width.{Width}
 use Rattle.translation.specs.declared.widths.Unaskable.{Unaskable}
 use Rattle.translation.specs.declared.datum.Ask.{Ask}
@@ -22,7 +23,7 @@ use Rattle.machine.specs.declared.calls.Answer.{Answer}
 use Rattle.machine.specs.declared.calls.Answer.TheVariants.{Done, Loaded, Stored, Reported}
 use Rattle.machine.specs.Refusals.{refusal_of}
 use Rattle.machine.specs.Contexts.{is_ultravisor, allowed}
-use Rattle.machine.specs.State.{State, thread_at, thread_of, with_thread, with_memory, entering, faulting}
+use Rattle.machine.specs.State.{State, Held, state_of, Held, thread_at, thread_of, with_thread, with_memory, entering, faulting}
 
 -- the thread that makes a call
 abbrev pub caller : Call → ℕ
@@ -88,6 +89,10 @@ abbrev pub recorded : {A : Type 0} → List Thread → ℕ → Result A Fault �
 recorded ts t (Ok a) = ts
 recorded ts t (Err f) = slice_set ts t (faulting (thread_at ts t) f)
 
+-- what a machine holds after that
+abbrev pub concluding : {M A : Type 0} → Held M → ℕ → Result A Fault → Held M
+concluding m t a = record { registers = m.registers; threads = recorded m.threads t a; memory = m.memory }
+
 -- an access that was made
 abbrev pub concluded : State → ℕ → (Result (ℕ × ℕ × ℕ) Fault → Answer) → Outcome (ℕ × ℕ × ℕ) → Answer × State
 concluded s t tell o = (tell o.0, record { registers = s.registers; threads = recorded s.threads t o.0; memory = o.1.memory })
@@ -109,16 +114,24 @@ abbrev pub remarked : Meaning → ℕ → Marking → Meaning
 remarked m f k = turned m f (slice_index_or m.marks f Ordinary) k
 
 -- ---- the calls
+-- a change of context, where it is allowed
+abbrev pub entered : Bool → State → ℕ → Context → Answer × State
+entered may s t c = if may then (Done (Ok tt), with_thread s t (entering (thread_at s.threads t) c)) else (Done (Err BadContext), s)
+
+-- a mark, by an ultravisor, of a frame that there is. Refusal 8 comes before 9
+abbrev pub framed : Bool → State → ℕ → Marking → Answer × State
+framed there s f k = if there then (Done (Ok tt), with_memory s (remarked s.memory f k)) else (Done (Err NoFrame), s)
+
+abbrev pub marking : Bool → Bool → State → ℕ → Marking → Answer × State
+marking may there s f k = if may then framed there s f k else (Done (Err NotUltravisor), s)
+
 -- a call of a thread that there is
 abbrev pub taken : State → Call → Answer × State
-taken s (Enter t c) = cond (allowed s.registers c) (Done (Ok tt), with_thread s t (entering (thread_at s.threads t) c)) (Done (Err BadContext), s)
+taken s (Enter t c) = entered (allowed s.registers c) s t c
 taken s (Load t w b i) = access_of s (Load t w b i) loaded (load_of (asked w b i))
 taken s (Store t w b i v) = access_of s (Store t w b i v) stored (store_of (asked w b i) v)
 taken s (Fetch t b i) = access_of s (Fetch t b i) loaded (fetch_of (fetched b i))
-taken s (Mark t f k) =
-    cond (is_ultravisor (thread_at s.threads t).context)
-    (cond (has_frame s.memory f) (Done (Ok tt), with_memory s (remarked s.memory f k)) (Done (Err NoFrame), s))
-    (Done (Err NotUltravisor), s)
+taken s (Mark t f k) = marking (is_ultravisor (thread_at s.threads t).context) (has_frame s.memory f) s f k
 taken s (Report t) = (Reported (Ok (thread_at s.threads t).fault), s)
 
 -- one call: what it answers, and the state after it. Refusal 3 comes first
@@ -133,3 +146,8 @@ step s c = by_thread s c (thread_of s.threads (caller c))
 pub record Steps (before : State) (c : Call) (answer : Answer) (after : State) : Type 0 where
   pub answers : answer ≡ (step before c).0
   pub leaves : after ≡ (step before c).1
+
+-- a machine makes a call: its state steps so, and its memory keeps what it keeps
+pub record Makes {M : Type 0} (meaning : M → Meaning) (keeps : M → M → Type 0) (before : Held M) (c : Call) (answer : Answer) (after : Held M) : Type 0 where
+  pub steps : Steps (state_of meaning before) c answer (state_of meaning after)
+  pub kept : keeps before.memory after.memory

@@ -3,7 +3,7 @@
 -- This file is to be read alone. From elsewhere it takes `State`, a machine's registers, threads and memory; `step s c`,
 -- what the call c answers in state s, and the state after it; `runs s cs`, the same for a list of calls, each from the
 -- state that the one before it left; and `started r m`, a newly started machine.
-use Rattle.std.specs.Prelude.{◌≡◌, ℕ, zero, suc, ◌+◌, ◌*◌, Bool, true, false, cond, not, ◌&&◌, ◌||◌, List, [], ◌∷◌, length, Some, None, Option, ◌==◌, nat_le, nat_lt, slice_index, slice_index_or}
+use Rattle.std.specs.Prelude.{◌≡◌, ℕ, zero, suc, ◌+◌, ◌*◌, Bool, true, false, if◌then◌else◌, not, ◌&&◌, ◌||◌, List, [], ◌∷◌, length, Some, None, Option, ◌==◌, nat_le, nat_lt, slice_index, slice_index_or}
 use Rattle.memory.specs.declared.protected.Mark.TheVariants.{Ordinary}
 use Rattle.memory.specs.Protected.{Meaning, size_of, frames_of, has_frame, number_of}
 use Rattle.translation.specs.declared.fault.Fault.{Fault}
@@ -53,14 +53,14 @@ same (x ∷ xs) (y ∷ ys) = x == y && same xs ys
 -- at how many places below n two readings differ
 unfoldable pub differing : (ℕ → List ℕ) → (ℕ → List ℕ) → ℕ → ℕ
 differing f g zero = 0
-differing f g (suc n) = differing f g n + cond (same (f n) (g n)) 0 1
+differing f g (suc n) = differing f g n + (if same (f n) (g n) then 0 else 1)
 
 -- a reading of a place is its value, and nothing where there is none to be read
 abbrev pub reading : Bool → ℕ → List ℕ
-reading there v = cond there (v ∷ []) []
+reading there v = if there then v ∷ [] else []
 
 abbrev pub flag : Bool → ℕ
-flag b = cond b 1 0
+flag b = if b then 1 else 0
 
 -- the mark of frame f
 abbrev pub mark_read : State → ℕ → List ℕ
@@ -88,7 +88,7 @@ fault_numbers (Some f) =
 
 -- the fault record of thread t, where it is ordinary
 abbrev pub fault_read : State → ℕ → List ℕ
-fault_read s t = cond (thread_at s.threads t).context.s [] (fault_numbers (thread_at s.threads t).fault)
+fault_read s t = if (thread_at s.threads t).context.s then [] else fault_numbers (thread_at s.threads t).fault
 
 -- all frames and all addresses of two states
 abbrev pub frames_in : State → State → ℕ
@@ -190,7 +190,7 @@ LearnsNothingOn s cs =
 -- how many marks, and bytes in secure frames, the calls of ordinary threads change
 abbrev pub altered : State → List Call → ℕ
 altered s [] = 0
-altered s (c ∷ cs) = cond (ordinary_thread s (caller c)) (secret_differences s (next s c)) 0 + altered (next s c) cs
+altered s (c ∷ cs) = (if ordinary_thread s (caller c) then secret_differences s (next s c) else 0) + altered (next s c) cs
 
 abbrev pub AltersNothing : State → List Call → Type 0
 AltersNothing s cs = s.registers.facility ≡ true → altered s cs ≡ 0

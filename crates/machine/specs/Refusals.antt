@@ -2,8 +2,11 @@
 use Rattle.std.specs.Prelude.{ℕ, List, codes}
 use Rattle.translation.specs.declared.widths.Unaskable.{Unaskable}
 use Rattle.translation.specs.declared.widths.Unaskable.TheVariants as unaskable
+use Rattle.translation.specs.Fault.{fault_text}
 use Rattle.machine.specs.declared.refusal.Refusal.{Refusal}
 use Rattle.machine.specs.declared.refusal.Refusal.TheVariants.{PartitionTable, RealOffset, NoThread, BadContext, OddWidth, Misaligned, TooWide, NotUltravisor, NoFrame}
+use Rattle.machine.specs.declared.refusal.Stop.{Stop}
+use Rattle.machine.specs.declared.refusal.Stop.TheVariants.{Declined, Faulted}
 
 -- a refusal's number; a call answers the first that holds
 abbrev pub refusal_number : Refusal → ℕ
@@ -34,3 +37,8 @@ abbrev pub refusal_of : Unaskable → Refusal
 refusal_of unaskable.OddWidth = OddWidth
 refusal_of unaskable.Misaligned = Misaligned
 refusal_of unaskable.TooWide = TooWide
+
+-- a stop's text: that of its refusal or of its fault
+abbrev pub stop_text : Stop → List ℕ
+stop_text (Declined r) = refusal_text r
+stop_text (Faulted f) = fault_text f

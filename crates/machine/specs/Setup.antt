@@ -1,5 +1,5 @@
 -- Which register images a setup takes. Assumes nothing.
-use Rattle.std.specs.Prelude.{ℕ, ◌+◌, ◌%◌, ◌^◌, Bool, false, cond, not, ◌&&◌, Ok, Err, Result, ◌==◌, nat_lt}
+use Rattle.std.specs.Prelude.{ℕ, ◌+◌, ◌%◌, ◌^◌, Bool, false, if◌then◌else◌, not, ◌&&◌, Ok, Err, Result, ◌==◌, nat_lt}
 use Rattle.translation.specs.declared.registers.Registers.{Registers}
 use Rattle.translation.specs.Fields.{bits, table_base, table_size}
 use Rattle.machine.specs.declared.refusal.Refusal.{Refusal}
@@ -24,9 +24,12 @@ names_table v = clear v && placed (table_size v) (table_base v)
 abbrev pub is_offset : ℕ → Bool
 is_offset v = v % 4096 == 0 && nat_lt v (2 ^ 57)
 
+abbrev pub offset_of : ℕ → Result ℕ Refusal
+offset_of v = if is_offset v then Ok v else Err RealOffset
+
 -- a refused image changes nothing
 abbrev pub refuse : Bool → Refusal → Registers → Registers → Result (Unit {0}) Refusal × Registers
-refuse good e before after = cond good (Ok tt, after) (Err e, before)
+refuse good e before after = if good then (Ok tt, after) else (Err e, before)
 
 abbrev pub with_ptcr : Registers → ℕ → Result (Unit {0}) Refusal × Registers
 with_ptcr r v = refuse (names_table v) PartitionTable r (record { ptcr = v; hrmor = r.hrmor; urmor = r.urmor; facility = r.facility })

@@ -1,5 +1,5 @@
 -- A machine's state, and how it starts. Assumes nothing.
-use Rattle.std.specs.Prelude.{ℕ, Bool, false, cond, not, List, replicate, Some, None, Ok, Err, Result, nat_lt, slice_index_or, slice_set}
+use Rattle.std.specs.Prelude.{ℕ, Bool, false, if◌then◌else◌, not, List, replicate, Some, None, Ok, Err, Result, nat_lt, slice_index_or, slice_set}
 use Rattle.memory.specs.Protected.{Meaning}
 use Rattle.translation.specs.declared.fault.Fault.{Fault}
 use Rattle.translation.specs.declared.registers.Registers.{Registers}
@@ -7,7 +7,6 @@ use Rattle.translation.specs.declared.registers.Context.{Context}
 use Rattle.machine.specs.declared.refusal.Refusal.{Refusal}
 use Rattle.machine.specs.declared.refusal.Refusal.TheVariants.{NoThread}
 use Rattle.machine.specs.declared.threads.Thread.{Thread}
-use Rattle.machine.specs.declared.machine.Machine.{Machine}
 use Rattle.machine.specs.Contexts.{first_context}
 
 -- the registers, the threads with their contexts and fault records, and what the memory means
@@ -16,8 +15,14 @@ pub record State : Type 0 where
   pub threads : List Thread
   pub memory : Meaning
 
-abbrev pub state_of : {M : Type 0} → (M → Meaning) → Machine M → State
-state_of meaning m = record { registers = m.setup.registers; threads = m.threads.all; memory = meaning m.memory }
+-- what a machine holds: its registers, its threads, and the memory itself
+pub record Held (M : Type 0) : Type 0 where
+  pub registers : Registers
+  pub threads : List Thread
+  pub memory : M
+
+abbrev pub state_of : {M : Type 0} → (M → Meaning) → Held M → State
+state_of meaning m = record { registers = m.registers; threads = m.threads; memory = meaning m.memory }
 
 -- a thread starts with its first context and no fault record
 abbrev pub first_thread : Thread
@@ -36,10 +41,10 @@ thread_at ts t = slice_index_or ts t no_thread
 
 -- threads are numbered 0 to 7
 abbrev pub thread_of : List Thread → ℕ → Result Thread Refusal
-thread_of ts t = cond (nat_lt t 8) (Ok (thread_at ts t)) (Err NoThread)
+thread_of ts t = if nat_lt t 8 then Ok (thread_at ts t) else Err NoThread
 
 abbrev pub context_of : List Thread → ℕ → Result Context Refusal
-context_of ts t = cond (nat_lt t 8) (Ok (thread_at ts t).context) (Err NoThread)
+context_of ts t = if nat_lt t 8 then Ok (thread_at ts t).context else Err NoThread
 
 -- one thread changed, the others as they were
 abbrev pub with_thread : State → ℕ → Thread → State
@@ -49,11 +54,11 @@ abbrev pub with_memory : State → Meaning → State
 with_memory s m = record { registers = s.registers; threads = s.threads; memory = m }
 
 abbrev pub same_side : Bool → Bool → Bool
-same_side a b = cond a b (not b)
+same_side a b = if a then b else not b
 
 -- entering a context erases the fault record if S changes
 abbrev pub entering : Thread → Context → Thread
-entering th c = record { context = c; fault = cond (same_side th.context.s c.s) th.fault None }
+entering th c = record { context = c; fault = if same_side th.context.s c.s then th.fault else None }
 
 -- a fault becomes the record of its thread
 abbrev pub faulting : Thread → Fault → Thread

@@ -1,4 +1,4 @@
-//! The rules of contexts.
+//! The rules of contexts, as functions: `Context` is another crate's type, and a trait for them would be longer.
 ghost use Rattle.std.specs.Prelude.{◌≡◌};
 ghost use Rattle.machine.specs.Contexts.{first_context, in_range, is_ultravisor, ultravisor_rule, problem_rule, guest_rule, secure_rule, allowed as is_allowed};
 

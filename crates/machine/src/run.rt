@@ -1,7 +1,7 @@
 //! Lists of calls.
 ghost use Rattle.std.specs.Prelude.{◌≡◌, MatchResult};
 ghost use Rattle.machine.specs.State.{state_of};
-ghost use Rattle.machine.specs.Calls.{Steps};
+ghost use Rattle.machine.specs.Calls.{Makes};
 ghost use Rattle.machine.specs.Runs.{Ran};
 ghost use Rattle.machine.specs.Isolation.{Isolated};
 
@@ -13,8 +13,7 @@ use std::alloc::{AllocError, Global};
 impl<M: ProtectedMemory> Machine<M> {
     /// Makes one call.
     pub fn call(&mut self, call: Call) -> Answer
-        ensures steps { Steps (state_of M.meaning self.old) call result (state_of M.meaning self.new) }
-        ensures keeps { M.keeps self.old.memory self.new.memory }
+        ensures { Makes M.meaning M.keeps self.old call result self.new }
     {
         match call {
             Call::Enter { thread, context } => Answer::Done(self.enter(thread, context)),
@@ -53,6 +52,7 @@ impl<M: ProtectedMemory> Machine<M> {
         ensures isolated { Isolated (state_of M.meaning self.old) calls.now }
         ensures keeps { M.keeps self.old.memory self.new.memory }
     {
+        // No `map` and `collect`: room for every answer comes first, so that an error has made no call.
         let mut answers = Vec::with_capacity(heap, calls.len())?;
         for call in calls {
             answers.push_reserved(self.call(*call));

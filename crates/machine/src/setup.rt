@@ -1,18 +1,28 @@
 //! The setup: the registers that all threads share, set before the machine starts.
 ghost use Rattle.std.specs.Prelude.{◌≡◌};
-ghost use Rattle.machine.specs.Setup.{no_registers, clear as is_clear, placed as is_placed, names_table, is_offset, with_ptcr, with_hrmor, with_urmor, with_facility};
+ghost use Rattle.machine.specs.Setup.{no_registers, clear as is_clear, names_table, offset_of, with_ptcr, with_hrmor, with_urmor, with_facility};
 ghost use Rattle.machine.specs.State.{state_of, started};
 
 use crate::machine::Machine;
 use crate::refusal::Refusal;
-use crate::threads::Threads;
 use memory::protected::ProtectedMemory;
+use std::marker::Model;
+use translation::fields::{misplaced, table_base, table_size};
 use translation::registers::Registers;
 
 /// A machine that has not started: its registers, all zero at first, and the secure memory facility off.
 #[derive(Drop)]
 pub struct Setup {
-    pub(crate) registers: Registers,
+    registers: Registers,
+}
+
+// A setup is seen as its registers.
+impl Model for Setup {
+    ghost use Rattle.translation.specs.declared.registers.Registers.{Registers};
+
+    ghost Value = { Registers };
+
+    ghost view = { λ setup. setup.registers };
 }
 
 // Whether no reserved bit of PTCR is 1.
@@ -22,31 +32,29 @@ fn clear(v: u64) -> bool
     v >> 60 == 0 && (v >> 5) % (1 << 7) == 0
 }
 
-// Whether a table of this size field may stand at a base.
-fn placed(size: u64, base: u64) -> bool
-    ensures { result ≡ is_placed size base }
-{
-    size <= 24 && base % (1 << (size + 12)) == 0
-}
-
 // Whether PTCR names a partition table.
 fn names_table(v: u64) -> bool
     ensures { result ≡ names_table v }
 {
-    clear(v) && placed(v % (1 << 5), (v >> 12) % (1 << 48) * (1 << 12))
+    clear(v) && !misplaced(table_size(v), table_base(v))
 }
 
-// Whether HRMOR or URMOR may hold this.
-fn is_offset(v: u64) -> bool
-    ensures { result ≡ is_offset v }
+// What HRMOR or URMOR may hold, or refusal 2.
+fn offset(value: u64) -> Result<u64, Refusal>
+    ensures { result ≡ offset_of value }
 {
-    v % 4096 == 0 && v < 1 << 57
+    if value % 4096 == 0 && value < 1 << 57 {
+        Ok(value)
+    } else {
+        Err(Refusal::RealOffset)
+    }
 }
 
 impl Setup {
     /// All registers zero, and the facility off.
+    // Written out, and no `Default`: what each register is at first is a rule.
     pub fn new() -> Setup
-        ensures { result.registers ≡ no_registers }
+        ensures { result ≡ no_registers }
     {
         Setup {
             registers: Registers {
@@ -60,8 +68,8 @@ impl Setup {
 
     /// Sets PTCR: the partition table's base and size. Refusal 1 changes nothing.
     pub fn set_ptcr(&mut self, value: u64) -> Result<(), Refusal>
-        ensures answer { result ≡ (with_ptcr self.old.registers value).0 }
-        ensures after { self.new.registers ≡ (with_ptcr self.old.registers value).1 }
+        ensures answer { result ≡ (with_ptcr self.old value).0 }
+        ensures after { self.new ≡ (with_ptcr self.old value).1 }
     {
         if !names_table(value) {
             return Err(Refusal::PartitionTable);
@@ -70,46 +78,38 @@ impl Setup {
         Ok(())
     }
 
+    // HRMOR and URMOR have a call each, as the rules name them; what both test and refuse is `offset`.
+
     /// Sets HRMOR, which is ORed to a hypervisor's real addresses. Refusal 2 changes nothing.
     pub fn set_hrmor(&mut self, value: u64) -> Result<(), Refusal>
-        ensures answer { result ≡ (with_hrmor self.old.registers value).0 }
-        ensures after { self.new.registers ≡ (with_hrmor self.old.registers value).1 }
+        ensures answer { result ≡ (with_hrmor self.old value).0 }
+        ensures after { self.new ≡ (with_hrmor self.old value).1 }
     {
-        if !is_offset(value) {
-            return Err(Refusal::RealOffset);
-        }
-        self.registers.hrmor = value;
+        self.registers.hrmor = offset(value)?;
         Ok(())
     }
 
     /// Sets URMOR, which is ORed to an ultravisor's real addresses. Refusal 2 changes nothing.
     pub fn set_urmor(&mut self, value: u64) -> Result<(), Refusal>
-        ensures answer { result ≡ (with_urmor self.old.registers value).0 }
-        ensures after { self.new.registers ≡ (with_urmor self.old.registers value).1 }
+        ensures answer { result ≡ (with_urmor self.old value).0 }
+        ensures after { self.new ≡ (with_urmor self.old value).1 }
     {
-        if !is_offset(value) {
-            return Err(Refusal::RealOffset);
-        }
-        self.registers.urmor = value;
+        self.registers.urmor = offset(value)?;
         Ok(())
     }
 
     /// Switches the secure memory facility on or off.
     pub fn set_facility(&mut self, on: bool)
-        ensures { self.new.registers ≡ with_facility self.old.registers on }
+        ensures { self.new ≡ with_facility self.old on }
     {
         self.registers.facility = on;
     }
 
     /// Starts the machine over a memory. The setup is used up, and every thread begins as a hypervisor in real mode.
     pub fn start<M: ProtectedMemory>(self, memory: M) -> Machine<M>
-        ensures state { state_of M.ProtectedMemory.meaning result ≡ started self.registers (M.ProtectedMemory.meaning memory) }
+        ensures state { state_of M.ProtectedMemory.meaning result ≡ started self (M.ProtectedMemory.meaning memory) }
         ensures memory { result.memory ≡ memory }
     {
-        Machine {
-            setup: self,
-            threads: Threads::new(),
-            memory,
-        }
+        Machine::new(self.registers, memory)
     }
 }

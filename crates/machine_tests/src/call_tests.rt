@@ -1,10 +1,11 @@
 //! Fault records, and marks.
-use crate::checks::answers_are;
-use crate::{enter, first, load, mark, setup, store, ultravisor};
+use crate::checks::{Frames, answers_are};
+use crate::{enter, load, mark, setup, store};
 use machine::calls::{Answer, Call};
 use machine::refusal::Stop;
 use memory::flat::Flat;
 use memory::protected::Mark;
+use reference::{FIRST, ULTRAVISOR};
 use std::test::Fail;
 use translation::fault::{Cause, Fault, Layer, Purpose};
 use translation::registers::Context;
@@ -34,9 +35,7 @@ fn recorded(fault: Fault) -> Answer {
 }
 
 fn another_process() -> Context {
-    let mut context = first();
-    context.pid = 7;
-    context
+    Context { pid: 7, ..FIRST }
 }
 
 const DONE: Answer = Answer::Done(Ok(()));
@@ -61,25 +60,18 @@ fn record_steps() -> [(Call, Answer); 13] {
         (report(5), recorded(beyond(true))),
         (enter(5, another_process()), DONE),
         (report(5), recorded(beyond(true))),
-        (enter(5, ultravisor()), DONE),
+        (enter(5, ULTRAVISOR), DONE),
         (report(5), NONE),
-        (enter(5, first()), DONE),
+        (enter(5, FIRST), DONE),
         (report(5), NONE),
     ]
 }
 
 #[test]
 fn records_of_faults(rt: HostRuntime) -> Result<(), Fail> {
-    let mut bytes = [0u8; 16384];
-    let mut marks = [0u8; 4];
-    let memory = Flat {
-        bytes: &mut bytes,
-        marks: &mut marks,
-    };
-    let Ok(setup) = setup() else {
-        return Err(Fail::new("the setup was refused"));
-    };
-    answers_are(&rt, &mut setup.start(memory), &record_steps())
+    let mut frames = Frames::<16384, 4>::new();
+    let memory = frames.memory();
+    answers_are(&rt, &mut setup()?.start(memory), &record_steps())
 }
 
 fn loaded(value: u64, real: u64) -> Answer {
@@ -93,7 +85,7 @@ fn stored(real: u64) -> Answer {
 // A frame is zeroed only as it turns from secure to ordinary. The ultravisor's URMOR is 0.
 fn mark_steps() -> [(Call, Answer); 11] {
     [
-        (enter(0, ultravisor()), DONE),
+        (enter(0, ULTRAVISOR), DONE),
         (store(0, 8, 0x1000, 77), stored(0x1000)),
         (store(0, 8, 0x2000, 88), stored(0x2000)),
         (mark(0, 1, Mark::Ordinary), DONE),
@@ -112,10 +104,7 @@ fn mark_steps() -> [(Call, Answer); 11] {
 fn marks_and_zeros(rt: HostRuntime) -> Result<(), Fail> {
     let mut bytes = [0u8; 16384];
     let mut marks = [0u8, 0, 0, 5];
-    let Ok(setup) = setup() else {
-        return Err(Fail::new("the setup was refused"));
-    };
-    let mut machine = setup.start(Flat {
+    let mut machine = setup()?.start(Flat {
         bytes: &mut bytes,
         marks: &mut marks,
     });

@@ -4,9 +4,10 @@
 
 use machine::calls::{Answer, Call};
 use machine::machine::Machine;
-use machine::refusal::{Refusal, Stop};
+use machine::refusal::Refusal;
 use machine::setup::Setup;
 use memory::protected::{Declined, Mark, ProtectedMemory};
+use reference::REGISTERS;
 use std::alloc::{AllocError, Global};
 use translation::fault::Fault;
 use translation::registers::Context;
@@ -25,63 +26,19 @@ mod setup_tests;
 /// A setup for the reference tables: the partition table at 0x1000, HRMOR 0x3000, the facility on.
 pub fn setup() -> Result<Setup, Refusal> {
     let mut setup = Setup::new();
-    setup.set_ptcr(0x1000)?;
-    setup.set_hrmor(0x3000)?;
-    setup.set_facility(true);
+    setup.set_ptcr(REGISTERS.ptcr)?;
+    setup.set_hrmor(REGISTERS.hrmor)?;
+    setup.set_facility(REGISTERS.facility);
     Ok(setup)
-}
-
-/// Writes the reference tables: a partition's tree and a process's tree of one table each.
-pub fn lay_tables<M: ProtectedMemory>(memory: &mut M) -> Result<(), Declined> {
-    memory.write(0x1010, 0x8000_0000_0000_200A)?;
-    memory.write(0x1018, 0x8000_0000_0000_4000)?;
-    memory.write(0x2000, 0xC000_0000_0000_0003)?;
-    memory.write(0x4010, 0x600A)?;
-    memory.write(0x6000, 0xC000_0000_0000_0002)
-}
-
-/// The context of a thread when the machine starts.
-pub fn first() -> Context {
-    Context {
-        s: false,
-        hv: true,
-        pr: false,
-        ir: false,
-        dr: false,
-        sf: true,
-        lpid: 0,
-        pid: 0,
-    }
-}
-
-/// An ultravisor.
-pub fn ultravisor() -> Context {
-    let mut context = first();
-    context.s = true;
-    context
-}
-
-/// A process of partition 1 in problem state, ordinary or secure.
-pub fn user(s: bool) -> Context {
-    Context {
-        s,
-        hv: false,
-        pr: true,
-        ir: true,
-        dr: true,
-        sf: true,
-        lpid: 1,
-        pid: 1,
-    }
 }
 
 /// All that can be seen of a machine: its threads' contexts and records, and its memory's doublewords and marks.
 #[derive(PartialEq, Eq, Drop)]
 pub struct Snapshot {
-    contexts: Vec<Context>,
-    records: Vec<Option<Fault>>,
-    words: Vec<u64>,
-    marks: Vec<Mark>,
+    contexts: Vec<Result<Context, Refusal>>,
+    records: Vec<Result<Option<Fault>, Refusal>>,
+    words: Vec<Result<u64, Declined>>,
+    marks: Vec<Result<Mark, Declined>>,
 }
 
 /// Looks at a machine.
@@ -89,43 +46,27 @@ pub fn look_at<M: ProtectedMemory>(
     heap: Global,
     machine: &Machine<M>,
 ) -> Result<Snapshot, AllocError> {
-    let mut contexts = Vec::new(heap);
-    let mut records = Vec::new(heap);
-    for thread in 0..8 {
-        if let (Ok(context), Ok(record)) = (machine.context(thread), machine.report(thread)) {
-            contexts.push(context)?;
-            records.push(record)?;
-        }
-    }
     let memory = machine.memory();
-    let mut words = Vec::new(heap);
-    for word in 0..memory.size() / 8 {
-        if let Ok(value) = memory.read(word * 8) {
-            words.push(value)?;
-        }
-    }
-    let mut marks = Vec::new(heap);
-    for frame in 0..memory.frames() {
-        if let Ok(mark) = memory.mark(frame) {
-            marks.push(mark)?;
-        }
-    }
     Ok(Snapshot {
-        contexts,
-        records,
-        words,
-        marks,
+        contexts: (0..8).map(|thread| machine.context(thread)).collect(heap)?,
+        records: (0..8).map(|thread| machine.report(thread)).collect(heap)?,
+        words: (0..memory.size())
+            .step_by(8)
+            .map(|addr| memory.read(addr))
+            .collect(heap)?,
+        marks: (0..memory.frames())
+            .map(|frame| memory.mark(frame))
+            .collect(heap)?,
     })
 }
 
 /// What a call answers that is declined.
 pub fn declined(call: &Call, refusal: Refusal) -> Answer {
     match call {
-        Call::Load { .. } => Answer::Loaded(Err(Stop::Declined(refusal))),
-        Call::Fetch { .. } => Answer::Loaded(Err(Stop::Declined(refusal))),
-        Call::Store { .. } => Answer::Stored(Err(Stop::Declined(refusal))),
+        Call::Enter { .. } | Call::Mark { .. } => Answer::Done(Err(refusal)),
+        Call::Load { .. } | Call::Fetch { .. } => Answer::Loaded(Err(refusal.into())),
+        Call::Store { .. } => Answer::Stored(Err(refusal.into())),
         Call::Report { .. } => Answer::Reported(Err(refusal)),
-        _ => Answer::Done(Err(refusal)),
     }
 }
 

@@ -1,13 +1,12 @@
 //! Each refusal, first in order while later ones hold too; and that a declined call changes nothing.
-use crate::{
-    declined, enter, first, lay_tables, load, look_at, mark, setup, store, ultravisor, user,
-};
+use crate::checks::Frames;
+use crate::{declined, enter, load, look_at, mark, setup, store};
 use machine::calls::Call;
 use machine::machine::Machine;
 use machine::refusal::Refusal;
 use machine::setup::Setup;
-use memory::flat::Flat;
 use memory::protected::{Mark, ProtectedMemory};
+use reference::{FIRST, SECURE_USER, TABLES, ULTRAVISOR, USER, lay};
 use std::alloc::Global;
 use std::process::Abort;
 use std::test::Fail;
@@ -20,38 +19,42 @@ fn all_declined<M: ProtectedMemory>(
     machine: &mut Machine<M>,
     cases: &[(Call, Refusal)],
 ) -> Result<(), Fail> {
-    let Ok(before) = look_at(heap, machine) else {
-        return Err(Fail::new("no memory for a snapshot"));
-    };
+    let before = look_at(heap, machine)?;
     for (call, refusal) in cases {
         assert_eq!(rt; machine.call(*call), declined(call, *refusal));
     }
-    let Ok(after) = look_at(heap, machine) else {
-        return Err(Fail::new("no memory for a snapshot"));
-    };
-    assert!(rt; after == before);
+    assert!(rt; look_at(heap, machine)? == before);
     Ok(())
 }
 
 // Contexts that break one rule each: LPID, PID, all of S, HV and PR, a translated ultravisor, an untranslated process, a
 // guest of partition 0.
 fn bad_contexts() -> [Context; 8] {
-    let mut all = [first(); 8];
-    all[0].lpid = 4096;
-    all[1].pid = 1_048_576;
-    all[2] = user(true);
-    all[2].hv = true;
-    all[3] = ultravisor();
-    all[3].ir = true;
-    all[4] = ultravisor();
-    all[4].dr = true;
-    all[5] = user(false);
-    all[5].ir = false;
-    all[6] = user(false);
-    all[6].dr = false;
-    all[7] = user(false);
-    all[7].lpid = 0;
-    all
+    [
+        Context {
+            lpid: 4096,
+            ..FIRST
+        },
+        Context {
+            pid: 1_048_576,
+            ..FIRST
+        },
+        Context {
+            hv: true,
+            ..SECURE_USER
+        },
+        Context {
+            ir: true,
+            ..ULTRAVISOR
+        },
+        Context {
+            dr: true,
+            ..ULTRAVISOR
+        },
+        Context { ir: false, ..USER },
+        Context { dr: false, ..USER },
+        Context { lpid: 0, ..USER },
+    ]
 }
 
 fn fetch(thread: u64, base: u64) -> Call {
@@ -100,25 +103,19 @@ fn cases() -> [(Call, Refusal); 22] {
 }
 
 // The machine of the cases: thread 0 an ultravisor, and a fault on record for thread 2.
-fn prepare<M: ProtectedMemory>(rt: &impl Abort, machine: &mut Machine<M>) {
-    assert!(rt; machine.enter(0, ultravisor()).is_ok());
+fn prepare<M: ProtectedMemory>(rt: &impl Abort, machine: &mut Machine<M>) -> Result<(), Refusal> {
+    machine.enter(0, ULTRAVISOR)?;
     assert!(rt; machine.load(2, 8, 0x9000, 0).is_err());
+    Ok(())
 }
 
 #[test]
 fn refusals_in_order(rt: HostRuntime) -> Result<(), Fail> {
-    let mut bytes = [0u8; 32768];
-    let mut marks = [0u8; 8];
-    let mut memory = Flat {
-        bytes: &mut bytes,
-        marks: &mut marks,
-    };
-    assert!(rt; lay_tables(&mut memory).is_ok());
-    let Ok(setup) = setup() else {
-        return Err(Fail::new("the setup was refused"));
-    };
-    let mut machine = setup.start(memory);
-    prepare(&rt, &mut machine);
+    let mut frames = Frames::<32768, 8>::new();
+    let mut memory = frames.memory();
+    lay(&mut memory, &TABLES)?;
+    let mut machine = setup()?.start(memory);
+    prepare(&rt, &mut machine)?;
     all_declined(&rt, rt.alloc(), &mut machine, &cases())?;
     for context in bad_contexts() {
         let case = (enter(3, context), Refusal::BadContext);
@@ -130,16 +127,12 @@ fn refusals_in_order(rt: HostRuntime) -> Result<(), Fail> {
 // With the facility off no thread becomes secure.
 #[test]
 fn secure_without_the_facility(rt: HostRuntime) -> Result<(), Fail> {
-    let mut bytes = [0u8; 4096];
-    let mut marks = [0u8; 1];
-    let memory = Flat {
-        bytes: &mut bytes,
-        marks: &mut marks,
-    };
+    let mut frames = Frames::<4096, 1>::new();
+    let memory = frames.memory();
     let mut machine = Setup::new().start(memory);
     let cases = [
-        (enter(0, ultravisor()), Refusal::BadContext),
-        (enter(0, user(true)), Refusal::BadContext),
+        (enter(0, ULTRAVISOR), Refusal::BadContext),
+        (enter(0, SECURE_USER), Refusal::BadContext),
     ];
     all_declined(&rt, rt.alloc(), &mut machine, &cases)
 }
@@ -159,6 +152,6 @@ fn numbers_of_refusals(rt: HostRuntime) {
         (Refusal::NoFrame, 9),
     ];
     for (refusal, number) in all {
-        assert_eq!(rt; refusal.number(), number);
+        assert_eq!(rt; u64::from(refusal), number);
     }
 }

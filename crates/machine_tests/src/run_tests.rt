@@ -1,12 +1,12 @@
 //! Lists of calls: the reference tables through one list, and two lists that ordinary threads cannot tell apart.
-use crate::{enter, lay_tables, load, mark, setup, store, ultravisor, user};
+use crate::{enter, load, mark, setup, store};
 use machine::calls::{Answer, Call};
 use machine::refusal::Stop;
 use memory::flat::Flat;
 use memory::paired::Paired;
 use memory::protected::{Declined, Mark, ProtectedMemory};
+use reference::{SECURE_USER, TABLES, ULTRAVISOR, USER, lay};
 use std::alloc::Global;
-use std::process::Abort;
 use std::test::Fail;
 use translation::fault::{Cause, Fault, Layer, Purpose};
 
@@ -29,9 +29,9 @@ fn secure() -> Fault {
 // A process loads at 0 twice and at 0x7FF8; frame 0 becomes secure; it is refused, a secure process is not.
 fn reference_calls() -> [Call; 10] {
     [
-        enter(0, user(false)),
-        enter(1, ultravisor()),
-        enter(2, user(true)),
+        enter(0, USER),
+        enter(1, ULTRAVISOR),
+        enter(2, SECURE_USER),
         load(0, 0),
         load(0, 0),
         load(0, 0x7FF8),
@@ -58,19 +58,14 @@ fn reference_answers() -> [Answer; 10] {
 }
 
 // Writes the tables, and a secret at 0x5000, whose frame is secure.
-fn lay<M: ProtectedMemory>(memory: &mut M, secret: u64) -> Result<(), Declined> {
-    lay_tables(memory)?;
+fn prepare<M: ProtectedMemory>(memory: &mut M, secret: u64) -> Result<(), Declined> {
+    lay(memory, &TABLES)?;
     memory.write(0x5000, secret)?;
     memory.set_mark(5, Mark::Secure)
 }
 
 // What a list of calls answers on a machine with a secret.
-fn answers(
-    rt: &impl Abort,
-    heap: Global,
-    secret: u64,
-    calls: &[Call],
-) -> Result<Vec<Answer>, Fail> {
+fn answers(heap: Global, secret: u64, calls: &[Call]) -> Result<Vec<Answer>, Fail> {
     let mut low = [0u8; 8192];
     let mut low_marks = [0u8; 2];
     let mut high = [0u8; 24576];
@@ -85,37 +80,28 @@ fn answers(
             marks: &mut high_marks,
         },
     };
-    assert!(rt; lay(&mut memory, secret).is_ok());
-    let Ok(setup) = setup() else {
-        return Err(Fail::new("the setup was refused"));
-    };
-    match setup.start(memory).run(heap, calls) {
-        Ok(answers) => Ok(answers),
-        Err(_) => Err(Fail::new("no memory for the answers")),
-    }
+    prepare(&mut memory, secret)?;
+    Ok(setup()?.start(memory).run(heap, calls)?)
 }
 
 #[test]
 fn reference_list(rt: HostRuntime) -> Result<(), Fail> {
-    let got = answers(&rt, rt.alloc(), 0, &reference_calls())?;
+    let got = answers(rt.alloc(), 0, &reference_calls())?;
     assert!(rt; got.as_slice() == reference_answers().as_slice());
     Ok(())
 }
 
 #[test]
 fn empty_list(rt: HostRuntime) -> Result<(), Fail> {
-    assert_eq!(rt; answers(&rt, rt.alloc(), 0, &[])?.len(), 0usize);
+    assert_eq!(rt; answers(rt.alloc(), 0, &[])?.len(), 0usize);
     Ok(())
 }
 
 // What a hypervisor, thread 3, tries: a load of the secret, its record, the leaf of the process's tree, a store into the
 // secret, its record again.
-const PROBE: Call = Call::Load {
-    thread: 3,
-    width: 8,
-    base: 0x8000_0000_0000_5000,
-    index: 0,
-};
+fn probe() -> Call {
+    load(3, 0x8000_0000_0000_5000)
+}
 
 const REPORT: Call = Call::Report { thread: 3 };
 
@@ -129,9 +115,9 @@ fn spoil() -> Call {
 
 fn one_list() -> [Call; 7] {
     [
-        enter(2, user(true)),
+        enter(2, SECURE_USER),
         load(2, 0x5000),
-        PROBE,
+        probe(),
         REPORT,
         leaf(),
         spoil(),
@@ -142,9 +128,9 @@ fn one_list() -> [Call; 7] {
 // The same, with other accesses and reports of the secure thread between.
 fn other_list() -> [Call; 10] {
     [
-        enter(2, user(true)),
+        enter(2, SECURE_USER),
         load(2, 0x5000),
-        PROBE,
+        probe(),
         load(2, 0x5000),
         REPORT,
         leaf(),
@@ -158,8 +144,8 @@ fn other_list() -> [Call; 10] {
 // With other secrets the hypervisor's answers are the same; the secure thread's are not.
 #[test]
 fn secrets_do_not_show(rt: HostRuntime) -> Result<(), Fail> {
-    let left = answers(&rt, rt.alloc(), 0x1111, &one_list())?;
-    let right = answers(&rt, rt.alloc(), 0x2222, &other_list())?;
+    let left = answers(rt.alloc(), 0x1111, &one_list())?;
+    let right = answers(rt.alloc(), 0x2222, &other_list())?;
     for (i, j) in [(0usize, 0usize), (2, 2), (3, 4), (4, 5), (5, 7), (6, 9)] {
         assert_eq!(rt; left.get(i).copied(), right.get(j).copied());
     }

@@ -1,8 +1,9 @@
 //! The setup's registers, and what threads are when the machine starts.
-use crate::{first, setup};
+use crate::checks::Frames;
+use crate::setup;
 use machine::refusal::Refusal;
 use machine::setup::Setup;
-use memory::flat::Flat;
+use reference::FIRST;
 use std::test::Fail;
 
 // Bits 0:3, bits 52:58, a size field above 24, and a base that is no multiple of the table's size.
@@ -38,30 +39,19 @@ fn bad_images_of_offsets(rt: HostRuntime) {
         assert_eq!(rt; setup.set_urmor(image), Err(Refusal::RealOffset));
     }
     assert_eq!(rt; setup.set_urmor(0x1FF_FFFF_FFFF_F000), Ok(()));
-    let mut bytes = [0u8; 16384];
-    let mut marks = [0u8; 4];
-    let memory = Flat {
-        bytes: &mut bytes,
-        marks: &mut marks,
-    };
+    let mut frames = Frames::<16384, 4>::new();
+    let memory = frames.memory();
     let mut machine = setup.start(memory);
     assert_eq!(rt; machine.load(0, 8, 0x10, 0), Ok((0, 0x3010, 0)));
 }
 
 #[test]
 fn threads_at_the_start(rt: HostRuntime) -> Result<(), Fail> {
-    let mut bytes = [0u8; 16384];
-    let mut marks = [0u8; 4];
-    let memory = Flat {
-        bytes: &mut bytes,
-        marks: &mut marks,
-    };
-    let Ok(setup) = setup() else {
-        return Err(Fail::new("the setup was refused"));
-    };
-    let machine = setup.start(memory);
+    let mut frames = Frames::<16384, 4>::new();
+    let memory = frames.memory();
+    let machine = setup()?.start(memory);
     for thread in 0..8 {
-        assert_eq!(rt; machine.context(thread), Ok(first()));
+        assert_eq!(rt; machine.context(thread), Ok(FIRST));
         assert_eq!(rt; machine.report(thread), Ok(None));
     }
     assert_eq!(rt; machine.context(8), Err(Refusal::NoThread));

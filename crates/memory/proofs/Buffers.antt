@@ -10,12 +10,15 @@ use Rattle.memory.specs.Protected.{size_of, frames_of, lies_below, holds, has_fr
 use Rattle.memory.specs.Flat.{covered, flat, as_octets, mark_of, Keeps, flat_frames, flat_size}
 use Rattle.memory.proofs.Lists.{length_over, take_over, drop_over, length_octets, octets_octets, number_take}
 
+-- a doubleword lies at a multiple of 8
+pub lies_even : (addr size : ℕ) → lies_below addr size ≡ true → addr % 8 ≡ 0
+lies_even addr size h = eqb-true (addr % 8) 0 (and_parts (eqb (addr % 8) 0) (ltb addr size) h).0
+
 -- a doubleword that lies below a size that is a multiple of 8 ends there too
 pub lies_within : (addr size : ℕ) → size % 8 ≡ 0 → lies_below addr size ≡ true → addr + 8 ≤ size
 lies_within addr size whole h =
-    let p = and_parts (eqb (addr % 8) 0) (ltb addr size) h in
-    let even : addr % 8 ≡ 0 = eqb-true (addr % 8) 0 p.0 in
-    let below : addr < size = ltb-true addr size p.1 in
+    let even = lies_even addr size h in
+    let below : addr < size = ltb-true addr size (and_parts (eqb (addr % 8) 0) (ltb addr size) h).1 in
     omega arith
 
 -- what bytes are as octets
@@ -39,11 +42,8 @@ as_octets_over bs at v = map_over bs at (octets 8 v) ∙ ap (over (as_octets bs)
 
 -- at a doubleword of a flat memory
 module _ (bs ms : List ℕ) (addr : ℕ) (h : holds (flat bs ms) addr ≡ true) where
-  pub room : addr + 8 ≤ size_of (flat bs ms)
+  room : addr + 8 ≤ size_of (flat bs ms)
   room = lies_within addr (size_of (flat bs ms)) (let s = flat_size bs ms in omega arith) h
-
-  pub bytes_inside : addr + 8 ≤ length bs
-  bytes_inside = let r = room in let s = flat_size bs ms in omega arith
 
   pub flat_number : Octets bs → number_at 8 (flat bs ms).bytes addr ≡ number_at 8 bs addr
   flat_number o =
@@ -91,7 +91,7 @@ module _ (bs ms : List ℕ) (frame : ℕ) (h : has_frame (flat bs ms) frame ≡ 
   frame_below : frame < covered (length bs) (length ms)
   frame_below = let l = ltb-true frame (frames_of (flat bs ms)) h in let n = flat_frames bs ms in omega arith
 
-  pub frame_inside : frame < length ms
+  frame_inside : frame < length ms
   frame_inside = let l = frame_below in omega arith
 
   pub flat_mark : get_or (flat bs ms).marks frame Ordinary ≡ mark_of (get_or ms frame 0)

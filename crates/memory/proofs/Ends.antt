@@ -1,150 +1,68 @@
 -- A call on two memories end to end is a call on one of them. Assumes nothing.
-use Rattle.std.proofs.Common.{◌≡◌, ℕ, ◌+◌, ◌-◌, ◌%◌, ◌<◌, ◌≤◌, min, Bool, true, false, cond, ◌&&◌, eqb, ltb, leb, ◌⊎◌, List, ◌++◌, length, get_or, take, drop, set, Some, None, Ok, Option, sym, refl, ap, ◌∙◌, subst, inl, inr, arith, length-append, length-take, drop-set-lt, MatchOption}
+use Rattle.std.proofs.Common.{◌≡◌, ℕ, ◌+◌, ◌-◌, ◌%◌, ◌<◌, ◌≤◌, min, Bool, true, false, cond, ◌&&◌, eqb, ltb, leb, ◌⊎◌, List, ◌++◌, get_or, take, drop, set, Some, None, Ok, Option, sym, refl, ap, ◌∙◌, subst, inl, inr, arith, length-append, length-take, drop-set-lt, MatchOption}
 use lib.Seq.{take-set-lt}
 use Rattle.std.proofs.lemmas.List.{get_or-take, get_or_append_left, get_or-append_right, set-append_left, set-append_right}
-use Rattle.std.proofs.lemmas.Bool.{lt-ltb, le-ltb, ltb-true, ltb-false, leb-true, leb-false, and_parts, eqb-true, cases_lt}
+use Rattle.std.proofs.lemmas.Bool.{cond_both, lt-ltb, le-ltb, ltb-true, ltb-false, leb-true, leb-false, cases_lt}
 use Rattle.memory.specs.declared.protected.Mark.{Mark}
 use Rattle.memory.specs.declared.protected.Mark.TheVariants.{Ordinary}
 use Rattle.memory.specs.Bytes.{number_at, octets, over}
-use Rattle.memory.specs.Protected.{Meaning, lies_below, stored}
+use Rattle.memory.specs.Protected.{Meaning, size_of, frames_of, holds, read_at, written, has_frame, mark_at, marked}
 use Rattle.memory.specs.Soundness.{Sound}
-use Rattle.memory.specs.Paired.{joined, beyond, in_second, GoesFirst, GoesSecond, FrameGoesFirst, FrameGoesSecond}
+use Rattle.memory.specs.Paired.{joined, beyond, in_second, Passes, Goes}
 use Rattle.memory.proofs.Lists.{take_over, drop_over, over_left, over_right, number_take, number_left, number_right, length_octets}
-use Rattle.memory.proofs.Buffers.{lies_within}
-
--- two choices by equal tests
-cond_same : {X : Type 0} (b c : Bool) (x y z w : X) → b ≡ c → (c ≡ true → x ≡ y) → z ≡ w → cond b x z ≡ cond c y w
-cond_same b true x y z w e f g = ap (λ t. cond t x z) e ∙ f refl
-cond_same b false x y z w e f g = ap (λ t. cond t x z) e ∙ g
-
--- a function of a choice
-cond_ap : {X Y : Type 0} (f : X → Y) (b : Bool) (x y : X) → f (cond b x y) ≡ cond b (f x) (f y)
-cond_ap f true x y = refl
-cond_ap f false x y = refl
-
--- a function of a choice, at both ends alike
-cond_stays : {X Y : Type 0} (f : X → Y) (b : Bool) (x y : X) → (b ≡ true → f x ≡ f y) → f (cond b x y) ≡ f y
-cond_stays f true x y h = h refl
-cond_stays f false x y h = refl
+use Rattle.memory.proofs.Buffers.{lies_even, lies_within}
+use Rattle.memory.proofs.Laws.{cond_through}
 
 -- tests of places that lie on the same side of their ends
 same_test : (a b m n : ℕ) → ((a < m) × (b < n)) ⊎ ((m ≤ a) × (n ≤ b)) → ltb a m ≡ ltb b n
 same_test a b m n (inl h) = lt-ltb a m h.0 ∙ sym (lt-ltb b n h.1)
 same_test a b m n (inr h) = le-ltb a m h.0 ∙ sym (le-ltb b n h.1)
 
--- xs and ys end to end, cut off at `most`
-module _ (most : ℕ) (xs ys : List ℕ) (addr : ℕ) (whole : most % 8 ≡ 0) (even : length xs % 8 ≡ 0) (even2 : length ys % 8 ≡ 0) (fits : length xs ≤ most) where
-  cut : length (take most (xs ++ ys)) ≡ min most (length xs + length ys)
-  cut = simp (length-take, length-append)
+-- a part of a whole, whose bytes and marks F and G give for each bytes and marks of the part
+module _ (F : List ℕ → List ℕ) (G : List Mark → List Mark) (m : Meaning) where
+  abbrev whole : Meaning → Meaning
+  whole k = record { bytes = take 1099511627776 (F k.bytes); marks = take 268435456 (G k.marks) }
 
-  -- at an address of the first, or past the cut
-  module _ (low : (addr < length xs) ⊎ (most ≤ addr)) where
-    low_test : lies_below addr (length (take most (xs ++ ys))) ≡ lies_below addr (length xs)
-    low_test =
-        let n = cut in
-        ap (λ t. eqb (addr % 8) 0 && t) (same_test addr addr _ (length xs) (elim low [ inl l ↦ inl (omega arith, l) | inr u ↦ inr (omega arith, omega arith) ]))
+  abbrev cut : Meaning → Meaning
+  cut k = record { bytes = drop 1099511627776 (F k.bytes); marks = drop 268435456 (G k.marks) }
 
-    room_low : lies_below addr (length xs) ≡ true → addr + 8 ≤ length xs
-    room_low h = lies_within addr (length xs) even h
+  byte_passes : (at up : ℕ) → holds (whole m) at ≡ holds m up
+      → (holds m up ≡ true → (at + 8 ≤ 1099511627776) × (number_at 8 (F m.bytes) at ≡ number_at 8 m.bytes up) × ((v : ℕ) → over (F m.bytes) at (octets 8 v) ≡ F (over m.bytes up (octets 8 v))))
+      → Passes holds read_at written whole cut m at up
+  byte_passes at up there h =
+      record {
+        there = there;
+        answer = cond_through (λ r. r) _ _ _ _ _ there (λ l. ap Ok (number_take 8 _ (F m.bytes) at (h l).0 ∙ (h l).1));
+        after = λ v k e. ap whole e ∙ sym (λ i. record { bytes = stored v i; marks = (whole m).marks });
+        leaves = λ v k e. ap cut e ∙ (λ i. record { bytes = past v i; marks = (cut m).marks });
+      }
+    where
+      stored : (v : ℕ) → (written (whole m) at v).bytes ≡ (whole (written m up v)).bytes
+      stored v = cond_through (λ bs. take 1099511627776 (F bs)) _ _ _ _ _ there (λ l. sym (take_over 1099511627776 (F m.bytes) at (octets 8 v)) ∙ ap (take 1099511627776) ((h l).2 v))
 
-    low_number : lies_below addr (length xs) ≡ true → number_at 8 (take most (xs ++ ys)) addr ≡ number_at 8 xs addr
-    low_number h = let r = room_low h in number_take 8 most (xs ++ ys) addr (omega arith) ∙ number_left 8 xs ys addr r
+      past : (v : ℕ) → (cut (written m up v)).bytes ≡ (cut m).bytes
+      past v =
+          cond_both (holds m up) _ _ (λ bs. drop 1099511627776 (F bs) ≡ (cut m).bytes)
+          (λ l. ap (drop 1099511627776) (sym ((h l).2 v)) ∙ drop_over 1099511627776 (F m.bytes) at (octets 8 v) (omega (arith, length_octets 8 v, (h l).0))) (λ l. refl)
 
-    module _ (v : ℕ) where
-      laid_low : lies_below addr (length xs) ≡ true → over (xs ++ ys) addr (octets 8 v) ≡ over xs addr (octets 8 v) ++ ys
-      laid_low h = let r = room_low h in over_left xs ys addr (octets 8 v) (omega (arith, length_octets 8 v))
+  frame_passes : (at up : ℕ) → has_frame (whole m) at ≡ has_frame m up
+      → (has_frame m up ≡ true → (at < 268435456) × (get_or (G m.marks) at Ordinary ≡ get_or m.marks up Ordinary) × ((t : Mark) → set (G m.marks) at t ≡ G (set m.marks up t)))
+      → Passes has_frame mark_at marked whole cut m at up
+  frame_passes at up there h =
+      record {
+        there = there;
+        answer = cond_through (λ r. r) _ _ _ _ _ there (λ l. ap Ok (get_or-take _ (G m.marks) at Ordinary (h l).0 ∙ (h l).1));
+        after = λ t k e. ap whole e ∙ sym (λ i. record { bytes = (whole m).bytes; marks = changed t i });
+        leaves = λ t k e. ap cut e ∙ (λ i. record { bytes = (cut m).bytes; marks = past t i });
+      }
+    where
+      changed : (t : Mark) → (marked (whole m) at t).marks ≡ (whole (marked m up t)).marks
+      changed t = cond_through (λ ms. take 268435456 (G ms)) _ _ _ _ _ there (λ l. sym (take-set-lt _ (G m.marks) at t (h l).0) ∙ ap (take 268435456) ((h l).2 t))
 
-      low_stored : stored (lies_below addr (length (take most (xs ++ ys)))) (take most (xs ++ ys)) addr v ≡ take most (stored (lies_below addr (length xs)) xs addr v ++ ys)
-      low_stored =
-          cond_same _ _ _ (take most (over xs addr (octets 8 v) ++ ys)) _ (take most (xs ++ ys)) low_test
-          (λ h. sym (take_over most (xs ++ ys) addr (octets 8 v)) ∙ ap (take most) (laid_low h)) refl
-          ∙ sym (cond_ap (λ zs. take most (zs ++ ys)) (lies_below addr (length xs)) (over xs addr (octets 8 v)) xs)
-
-      low_beyond : drop most (stored (lies_below addr (length xs)) xs addr v ++ ys) ≡ drop most (xs ++ ys)
-      low_beyond =
-          cond_stays (λ zs. drop most (zs ++ ys)) (lies_below addr (length xs)) (over xs addr (octets 8 v)) xs
-          (λ h. let r = room_low h in ap (drop most) (sym (laid_low h)) ∙ drop_over most (xs ++ ys) addr (octets 8 v) (omega (arith, length_octets 8 v)))
-
-  -- at an address of the second
-  module _ (up : ℕ) (at : length xs + up ≡ addr) (below : addr < most) where
-    high_test : lies_below addr (length (take most (xs ++ ys))) ≡ lies_below up (length ys)
-    high_test =
-        let n = cut in
-        let e : addr % 8 ≡ up % 8 = omega arith in
-        ap (λ r. eqb r 0 && ltb addr (length (take most (xs ++ ys)))) e
-        ∙ ap (λ t. eqb (up % 8) 0 && t) (same_test addr up _ (length ys) (elim (cases_lt up (length ys)) [ inl l ↦ inl (omega arith, l) | inr u ↦ inr (omega arith, u) ]))
-
-    room_high : lies_below up (length ys) ≡ true → addr + 8 ≤ most
-    room_high h =
-        let even3 : up % 8 ≡ 0 = eqb-true (up % 8) 0 (and_parts (eqb (up % 8) 0) (ltb up (length ys)) h).0 in
-        omega arith
-
-    high_number : lies_below up (length ys) ≡ true → number_at 8 (take most (xs ++ ys)) addr ≡ number_at 8 ys up
-    high_number h = number_take 8 most (xs ++ ys) addr (room_high h) ∙ ap (number_at 8 (xs ++ ys)) (sym at) ∙ number_right 8 xs ys up
-
-    module _ (v : ℕ) where
-      laid_high : over (xs ++ ys) addr (octets 8 v) ≡ xs ++ over ys up (octets 8 v)
-      laid_high = ap (λ i. over (xs ++ ys) i (octets 8 v)) (sym at) ∙ over_right xs ys up (octets 8 v)
-
-      high_stored : stored (lies_below addr (length (take most (xs ++ ys)))) (take most (xs ++ ys)) addr v ≡ take most (xs ++ stored (lies_below up (length ys)) ys up v)
-      high_stored =
-          cond_same _ _ _ (take most (xs ++ over ys up (octets 8 v))) _ (take most (xs ++ ys)) high_test
-          (λ h. sym (take_over most (xs ++ ys) addr (octets 8 v)) ∙ ap (take most) laid_high) refl
-          ∙ sym (cond_ap (λ zs. take most (xs ++ zs)) (lies_below up (length ys)) (over ys up (octets 8 v)) ys)
-
-      high_beyond : drop most (xs ++ stored (lies_below up (length ys)) ys up v) ≡ drop most (xs ++ ys)
-      high_beyond =
-          cond_stays (λ zs. drop most (xs ++ zs)) (lies_below up (length ys)) (over ys up (octets 8 v)) ys
-          (λ h. let r = room_high h in ap (drop most) (sym laid_high) ∙ drop_over most (xs ++ ys) addr (octets 8 v) (omega (arith, length_octets 8 v)))
-
--- ms and ns end to end, cut off at `most`
-module _ (most : ℕ) (ms ns : List Mark) (f : ℕ) (fits : length ms ≤ most) where
-  trimmed : length (take most (ms ++ ns)) ≡ min most (length ms + length ns)
-  trimmed = simp (length-take, length-append)
-
-  module _ (low : (f < length ms) ⊎ (most ≤ f)) where
-    first_test : ltb f (length (take most (ms ++ ns))) ≡ ltb f (length ms)
-    first_test = let n = trimmed in same_test f f _ (length ms) (elim low [ inl l ↦ inl (omega arith, l) | inr u ↦ inr (omega arith, omega arith) ])
-
-    first_mark : ltb f (length ms) ≡ true → get_or (take most (ms ++ ns)) f Ordinary ≡ get_or ms f Ordinary
-    first_mark h = let l = ltb-true f (length ms) h in get_or-take most (ms ++ ns) f Ordinary (omega arith) ∙ get_or_append_left ms ns Ordinary f l
-
-    module _ (k : Mark) where
-      set_first : ltb f (length ms) ≡ true → set (ms ++ ns) f k ≡ set ms f k ++ ns
-      set_first h = set-append_left ms ns f k (ltb-true f (length ms) h)
-
-      first_set : cond (ltb f (length (take most (ms ++ ns)))) (set (take most (ms ++ ns)) f k) (take most (ms ++ ns)) ≡ take most (cond (ltb f (length ms)) (set ms f k) ms ++ ns)
-      first_set =
-          cond_same _ _ _ (take most (set ms f k ++ ns)) _ (take most (ms ++ ns)) first_test
-          (λ h. let l = ltb-true f (length ms) h in sym (take-set-lt most (ms ++ ns) f k (omega arith)) ∙ ap (take most) (set_first h)) refl
-          ∙ sym (cond_ap (λ zs. take most (zs ++ ns)) (ltb f (length ms)) (set ms f k) ms)
-
-      first_beyond : drop most (cond (ltb f (length ms)) (set ms f k) ms ++ ns) ≡ drop most (ms ++ ns)
-      first_beyond =
-          cond_stays (λ zs. drop most (zs ++ ns)) (ltb f (length ms)) (set ms f k) ms
-          (λ h. let l = ltb-true f (length ms) h in ap (drop most) (sym (set_first h)) ∙ drop-set-lt most (ms ++ ns) f k (omega arith))
-
-  module _ (up : ℕ) (at : f - length ms ≡ up) (high : length ms ≤ f) (below : f < most) where
-    second_test : ltb f (length (take most (ms ++ ns))) ≡ ltb up (length ns)
-    second_test = let n = trimmed in same_test f up _ (length ns) (elim (cases_lt up (length ns)) [ inl l ↦ inl (omega arith, l) | inr u ↦ inr (omega arith, u) ])
-
-    second_mark : get_or (take most (ms ++ ns)) f Ordinary ≡ get_or ns up Ordinary
-    second_mark = get_or-take most (ms ++ ns) f Ordinary below ∙ get_or-append_right ms ns (length ms) f Ordinary refl high ∙ ap (λ i. get_or ns i Ordinary) at
-
-    module _ (k : Mark) where
-      set_second : set (ms ++ ns) f k ≡ ms ++ set ns up k
-      set_second = set-append_right ms ns (length ms) f k refl high ∙ ap (λ i. ms ++ set ns i k) at
-
-      second_set : cond (ltb f (length (take most (ms ++ ns)))) (set (take most (ms ++ ns)) f k) (take most (ms ++ ns)) ≡ take most (ms ++ cond (ltb up (length ns)) (set ns up k) ns)
-      second_set =
-          cond_same _ _ _ (take most (ms ++ set ns up k)) _ (take most (ms ++ ns)) second_test
-          (λ h. sym (take-set-lt most (ms ++ ns) f k below) ∙ ap (take most) set_second) refl
-          ∙ sym (cond_ap (λ zs. take most (ms ++ zs)) (ltb up (length ns)) (set ns up k) ns)
-
-      second_beyond : drop most (ms ++ cond (ltb up (length ns)) (set ns up k) ns) ≡ drop most (ms ++ ns)
-      second_beyond =
-          cond_stays (λ zs. drop most (ms ++ zs)) (ltb up (length ns)) (set ns up k) ns
-          (λ h. ap (drop most) (sym set_second) ∙ drop-set-lt most (ms ++ ns) f k below)
+      past : (t : Mark) → (cut (marked m up t)).marks ≡ (cut m).marks
+      past t =
+          cond_both (has_frame m up) _ _ (λ ms. drop 268435456 (G ms) ≡ (cut m).marks)
+          (λ l. ap (drop 268435456) (sym ((h l).2 t)) ∙ drop-set-lt _ (G m.marks) at t (h l).0) (λ l. refl)
 
 -- a place lies in the second part, or in the first or past the cut
 cases_place : (at seam most : ℕ) (r : Option ℕ) (P : Type 0) (Q : ℕ → Type 0) → r ≡ in_second at seam most
@@ -156,59 +74,61 @@ cases_place at seam most r P Q e f g = subst (λ (o : Option ℕ). MatchOption o
     go true false p q = f (inr (ltb-false at most q))
     go false y p q = f (inl (leb-false seam at p))
 
+-- the size of two memories end to end, and the number of frames
+pub size_joined : (m n : Meaning) → size_of (joined m n) ≡ min 1099511627776 (size_of m + size_of n)
+unfolding joined
+size_joined m n = simp (length-take, length-append)
+
+frames_joined : (m n : Meaning) → frames_of (joined m n) ≡ min 268435456 (frames_of m + frames_of n)
+unfolding joined
+frames_joined m n = simp (length-take, length-append)
+
 module _ (m n : Meaning) (p : Sound m) (q : Sound n) where
-  even : length m.bytes % 8 ≡ 0
-  even = omega (arith, p.framed)
-
-  even2 : length n.bytes % 8 ≡ 0
-  even2 = omega (arith, q.framed)
-
-  few : length m.marks ≤ 268435456
-  few = omega (arith, p.framed, p.small)
-
-  pub byte_goes : (addr : ℕ) (r : Option ℕ) → r ≡ in_second addr (length m.bytes) 1099511627776 → MatchOption r (GoesFirst m n addr) (GoesSecond m n addr)
+  pub byte_goes : (addr : ℕ) (r : Option ℕ) → r ≡ in_second addr (size_of m) 1099511627776 → Goes holds read_at written m n addr r
   unfolding joined beyond
-  byte_goes addr r e =
-      let xs = m.bytes in
-      let ys = n.bytes in
-      cases_place addr (length xs) 1099511627776 r _ _ e
-      (λ low.
-      let test = low_test 1099511627776 xs ys addr refl even even2 p.small low in
-      record {
-        test = test;
-        reads = cond_same _ _ _ _ _ _ test (λ h. ap Ok (low_number 1099511627776 xs ys addr refl even even2 p.small low h)) refl;
-        writes = λ v k e. ap (λ k. joined k n) e ∙ sym (λ i. record { bytes = low_stored 1099511627776 xs ys addr refl even even2 p.small low v i; marks = (joined m n).marks });
-        leaves = λ v k e. ap (λ k. beyond k n) e ∙ (λ i. record { bytes = low_beyond 1099511627776 xs ys addr refl even even2 p.small low v i; marks = (beyond m n).marks });
-      })
-      (λ high below.
-      let at : length xs + (addr - length xs) ≡ addr = omega arith in
-      let test = high_test 1099511627776 xs ys addr refl even even2 p.small (addr - length xs) at below in
-      record {
-        test = test;
-        reads = cond_same _ _ _ _ _ _ test (λ h. ap Ok (high_number 1099511627776 xs ys addr refl even even2 p.small _ at below h)) refl;
-        writes = λ v k e. ap (joined m) e ∙ sym (λ i. record { bytes = high_stored 1099511627776 xs ys addr refl even even2 p.small _ at below v i; marks = (joined m n).marks });
-        leaves = λ v k e. ap (beyond m) e ∙ (λ i. record { bytes = high_beyond 1099511627776 xs ys addr refl even even2 p.small _ at below v i; marks = (beyond m n).marks });
-      })
+  byte_goes addr r e = cases_place addr (size_of m) 1099511627776 r _ _ e first second
+    where
+      even : size_of m % 8 ≡ 0
+      even = omega (arith, p.framed)
 
-  pub frame_goes : (f : ℕ) (r : Option ℕ) → r ≡ in_second f (length m.marks) 268435456 → MatchOption r (FrameGoesFirst m n f) (FrameGoesSecond m n f)
+      first : (addr < size_of m) ⊎ (1099511627776 ≤ addr) → Passes holds read_at written (λ k. joined k n) (λ k. beyond k n) m addr addr
+      first low =
+          let size = size_joined m n in
+          let small = p.small in
+          byte_passes (λ bs. bs ++ n.bytes) (λ ms. ms ++ n.marks) m addr addr
+          (ap (λ t. eqb (addr % 8) 0 && t) (same_test addr addr (size_of (joined m n)) (size_of m) (elim low [ inl l ↦ inl (omega arith, l) | inr u ↦ inr (omega arith, omega arith) ]))) (λ h.
+          let room = lies_within addr (size_of m) even h in
+          (omega arith, number_left 8 m.bytes n.bytes addr room, λ v. over_left m.bytes n.bytes addr (octets 8 v) (omega (arith, length_octets 8 v))))
+
+      second : size_of m ≤ addr → addr < 1099511627776 → Passes holds read_at written (joined m) (beyond m) n addr (addr - size_of m)
+      second high below =
+          let size = size_joined m n in
+          let up = addr - size_of m in
+          let on : size_of m + up ≡ addr = omega arith in
+          let alike : addr % 8 ≡ up % 8 = omega (arith, even) in
+          byte_passes (λ bs. m.bytes ++ bs) (λ ms. m.marks ++ ms) n addr up
+          (ap (λ r. eqb r 0 && ltb addr (size_of (joined m n))) alike ∙ ap (λ t. eqb (up % 8) 0 && t) (same_test addr up (size_of (joined m n)) (size_of n) (elim (cases_lt up (size_of n)) [ inl l ↦ inl (omega arith, l) | inr u ↦ inr (omega arith, u) ]))) (λ h.
+          let whole : up % 8 ≡ 0 = lies_even up (size_of n) h in
+          (omega arith, ap (number_at 8 (m.bytes ++ n.bytes)) (sym on) ∙ number_right 8 m.bytes n.bytes up, λ v. ap (λ i. over (m.bytes ++ n.bytes) i (octets 8 v)) (sym on) ∙ over_right m.bytes n.bytes up (octets 8 v)))
+
+  pub frame_goes : (f : ℕ) (r : Option ℕ) → r ≡ in_second f (frames_of m) 268435456 → Goes has_frame mark_at marked m n f r
   unfolding joined beyond
-  frame_goes f r e =
-      let ms = m.marks in
-      let ns = n.marks in
-      cases_place f (length ms) 268435456 r _ _ e
-      (λ low.
-      let test = first_test 268435456 ms ns f few low in
-      record {
-        test = test;
-        asks = cond_same _ _ _ _ _ _ test (λ h. ap Ok (first_mark 268435456 ms ns f few low h)) refl;
-        marks = λ t k e. ap (λ k. joined k n) e ∙ sym (λ i. record { bytes = (joined m n).bytes; marks = first_set 268435456 ms ns f few low t i });
-        leaves = λ t k e. ap (λ k. beyond k n) e ∙ (λ i. record { bytes = (beyond m n).bytes; marks = first_beyond 268435456 ms ns f few low t i });
-      })
-      (λ high below.
-      let test = second_test 268435456 ms ns f few (f - length ms) refl high below in
-      record {
-        test = test;
-        asks = cond_same _ _ _ _ _ _ test (λ h. ap Ok (second_mark 268435456 ms ns f few (f - length ms) refl high below)) refl;
-        marks = λ t k e. ap (joined m) e ∙ sym (λ i. record { bytes = (joined m n).bytes; marks = second_set 268435456 ms ns f few (f - length ms) refl high below t i });
-        leaves = λ t k e. ap (beyond m) e ∙ (λ i. record { bytes = (beyond m n).bytes; marks = second_beyond 268435456 ms ns f few (f - length ms) refl high below t i });
-      })
+  frame_goes f r e = cases_place f (frames_of m) 268435456 r _ _ e first second
+    where
+      few : frames_of m ≤ 268435456
+      few = omega (arith, p.framed, p.small)
+
+      first : (f < frames_of m) ⊎ (268435456 ≤ f) → Passes has_frame mark_at marked (λ k. joined k n) (λ k. beyond k n) m f f
+      first low =
+          let count = frames_joined m n in
+          let most = few in
+          frame_passes (λ bs. bs ++ n.bytes) (λ ms. ms ++ n.marks) m f f (same_test f f (frames_of (joined m n)) (frames_of m) (elim low [ inl l ↦ inl (omega arith, l) | inr u ↦ inr (omega arith, omega arith) ])) (λ h.
+          let l = ltb-true f (frames_of m) h in
+          (omega arith, get_or_append_left m.marks n.marks Ordinary f l, λ t. set-append_left m.marks n.marks f t l))
+
+      second : frames_of m ≤ f → f < 268435456 → Passes has_frame mark_at marked (joined m) (beyond m) n f (f - frames_of m)
+      second high below =
+          let count = frames_joined m n in
+          let up = f - frames_of m in
+          frame_passes (λ bs. m.bytes ++ bs) (λ ms. m.marks ++ ms) n f up (same_test f up (frames_of (joined m n)) (frames_of n) (elim (cases_lt up (frames_of n)) [ inl l ↦ inl (omega arith, l) | inr u ↦ inr (omega arith, u) ])) (λ h.
+          (below, get_or-append_right m.marks n.marks (frames_of m) f Ordinary refl high, λ t. set-append_right m.marks n.marks (frames_of m) f t refl high))

@@ -1,11 +1,15 @@
 -- Bytes laid over a list, and the numbers that bytes spell. Assumes nothing.
-use Rattle.std.proofs.Common.{◌≡◌, ℕ, zero, suc, ◌+◌, ◌*◌, ◌/◌, ◌%◌, ◌^◌, ◌<◌, ◌≤◌, ◌⊎◌, List, [], ◌∷◌, ◌++◌, length, get_or, take, drop, replicate, sym, refl, ap, ◌∙◌, inl, inr, add-zero, add_assoc, mul-le-mul_right, mod-lt, mod-eq_of_lt, mul_assoc, add-mul, mul-le-mul_left, one-mul, zero-add, zero-mul, div-one, arith, lit<, length-drop}
-use native.Mathlib.Nat.{pow-succ'}
+use Rattle.std.proofs.Common.{◌≡◌, ℕ, zero, suc, ◌+◌, ◌*◌, ◌/◌, ◌%◌, ◌^◌, ◌<◌, ◌≤◌, ◌⊎◌, List, [], ◌∷◌, ◌++◌, length, get_or, take, drop, replicate, sym, refl, ap, ◌∙◌, inl, inr, add-zero, add_assoc, mul-le-mul_right, mod-lt, mod-eq_of_lt, mul_assoc, add-mul, mul-le-mul_left, one-mul, zero-add, zero-mul, div-one, arith, lit<, length-drop, length-take, subst, ◌-◌}
+use native.Mathlib.Nat.{pow-succ', one-le-pow}
 use lib.Arith.{mod-mul}
 use lib.ListN.{length-replicate}
-use Rattle.std.proofs.lemmas.List.{take-take, take-append-le, drop-append-le, drop_more}
+use lib.Seq.{drop-append-add}
+use Rattle.std.proofs.lemmas.List.{ext_get_or, get_or-take, get_or-drop, drop-take, replicate-append-replicate, take-take, take_rest, take-append-le, drop-append-le, length-take-le}
+use Rattle.std.proofs.lemmas.Nat.{be_bytes_8}
 use Rattle.std.proofs.lemmas.Bool.{cases_lt}
-use Rattle.memory.specs.Bytes.{Octets, spell, octets, number_at, over}
+use Rattle.std.specs.Array.{IsFirstChunk}
+use Rattle.std.specs.Int.{w64, from_be_bytes}
+use Rattle.memory.specs.Bytes.{Octets, octets_take, spell, octets, number_at, over}
 
 -- bytes laid over a list keep its length
 pub length_over : (bs : List ℕ) (at : ℕ) (vs : List ℕ) → length (over bs at vs) ≡ length bs
@@ -111,10 +115,6 @@ unfolding octets
 length_octets zero v = refl
 length_octets (suc w) v = ap suc (length_octets w v)
 
-pow_pos : (w : ℕ) → 0 < 256 ^ w
-pow_pos zero = lit< tt
-pow_pos (suc w) = let h = pow_pos w in let e = pow-succ' 256 w in omega arith
-
 -- the last bytes of a number spell its remainder
 pub spell_octets : (w v n : ℕ) → spell n (octets w v) ≡ n * 256 ^ w + v % 256 ^ w
 unfolding octets spell
@@ -122,7 +122,7 @@ spell_octets zero v n = omega arith
 spell_octets (suc w) v n =
     let p = 256 ^ w in
     let d = v / p % 256 in
-    let split : v % (256 * p) ≡ d * p + v % p = mod-mul v (lit< tt) (pow_pos w) in
+    let split : v % (256 * p) ≡ d * p + v % p = mod-mul v (lit< tt) (one-le-pow w 256 (lit< tt)) in
     let wide : 256 ^ suc w ≡ 256 * p = pow-succ' 256 w in
     let left : (n * 256 + d) * p ≡ n * 256 * p + d * p = add-mul (n * 256) d p in
     let up : n * 256 * p ≡ n * (256 * p) = mul_assoc n 256 p in
@@ -132,13 +132,11 @@ spell_octets (suc w) v n =
 -- a number in a front of a list
 pub number_take : (w n : ℕ) (bs : List ℕ) (at : ℕ) → at + w ≤ n → number_at w (take n bs) at ≡ number_at w bs at
 unfolding number_at
-number_take w n bs at h = ap (spell 0) (front w n bs at h)
-  where
-    front : (w n : ℕ) (bs : List ℕ) (at : ℕ) → at + w ≤ n → take w (drop at (take n bs)) ≡ take w (drop at bs)
-    front w n bs zero h = take-take w n bs (omega arith)
-    front w zero bs (suc at) h = absurd (omega arith)
-    front w (suc n) [] (suc at) h = refl
-    front w (suc n) (b ∷ bs) (suc at) h = front w n bs at (omega arith)
+number_take w n bs at h =
+    let on : at + (n - at) ≡ n = omega arith in
+    ap (λ k. spell 0 (take w (drop at (take k bs)))) (sym on)
+    ∙ ap (λ xs. spell 0 (take w xs)) (drop-take at (n - at) bs)
+    ∙ ap (spell 0) (take-take w (n - at) (drop at bs) (omega arith))
 
 -- a number in the first of two lists
 pub number_left : (w : ℕ) (bs cs : List ℕ) (at : ℕ) → at + w ≤ length bs → number_at w (bs ++ cs) at ≡ number_at w bs at
@@ -150,35 +148,19 @@ number_left w bs cs at h =
 -- a number in the second of two lists
 pub number_right : (w : ℕ) (bs cs : List ℕ) (at : ℕ) → number_at w (bs ++ cs) (length bs + at) ≡ number_at w cs at
 unfolding number_at
-number_right w bs cs at = ap (λ xs. spell 0 (take w xs)) (behind bs cs at)
-  where
-    behind : (bs cs : List ℕ) (at : ℕ) → drop (length bs + at) (bs ++ cs) ≡ drop at cs
-    behind [] cs at = ap (λ i. drop i cs) (zero-add at)
-    behind (b ∷ bs) cs at =
-        let on : length (b ∷ bs) + at ≡ suc (length bs + at) = omega arith in
-        ap (λ i. drop i (b ∷ (bs ++ cs))) on ∙ behind bs cs at
+number_right w bs cs at = ap (λ xs. spell 0 (take w xs)) (drop-append-add bs cs at)
 
 -- two lists that agree at `w` places spell one number there
 pub number_same : (w : ℕ) (bs cs : List ℕ) (at : ℕ) → length bs ≡ length cs → ((i : ℕ) → i < w → get_or bs (at + i) 0 ≡ get_or cs (at + i) 0) → number_at w bs at ≡ number_at w cs at
 unfolding number_at
-number_same w bs cs at e h = ap (spell 0) (agree w bs cs at e h)
-  where
-    agree : (w : ℕ) (bs cs : List ℕ) (at : ℕ) → length bs ≡ length cs → ((i : ℕ) → i < w → get_or bs (at + i) 0 ≡ get_or cs (at + i) 0) → take w (drop at bs) ≡ take w (drop at cs)
-    agree zero bs cs at e h = refl
-    agree (suc w) [] [] at e h = refl
-    agree (suc w) [] (c ∷ cs) at e h = absurd (let z : 0 ≡ suc (length cs) = e in omega arith)
-    agree (suc w) (b ∷ bs) [] at e h = absurd (let z : suc (length bs) ≡ 0 = e in omega arith)
-    agree (suc w) (b ∷ bs) (c ∷ cs) zero e h =
-        let first : b ≡ c = h 0 (omega arith) in
-        let rest : take w bs ≡ take w cs = agree w bs cs zero (let z : suc (length bs) ≡ suc (length cs) = e in omega arith) (λ i l.
-        let there = h (suc i) (omega arith) in
-        let on : zero + suc i ≡ suc (zero + i) = omega arith in
-        ap (λ j. get_or (b ∷ bs) j 0) (sym on) ∙ there ∙ ap (λ j. get_or (c ∷ cs) j 0) on) in
-        λ j. first j ∷ rest j
-    agree (suc w) (b ∷ bs) (c ∷ cs) (suc at) e h =
-        agree (suc w) bs cs at (let z : suc (length bs) ≡ suc (length cs) = e in omega arith) (λ i l.
-        let on : suc at + i ≡ suc (at + i) = omega arith in
-        ap (λ j. get_or (b ∷ bs) j 0) (sym on) ∙ h i l ∙ ap (λ j. get_or (c ∷ cs) j 0) on)
+number_same w bs cs at e h =
+    ap (spell 0) (ext_get_or 0 (take w (drop at bs)) (take w (drop at cs)) (simp (length-take, length-drop) (rw e)) (λ i l.
+    let below : i < w = omega (arith, length-take w (drop at bs)) in
+    get_or-take w (drop at bs) i 0 below ∙ get_or-drop at bs i 0 ∙ h i below ∙ sym (get_or-drop at cs i 0) ∙ sym (get_or-take w (drop at cs) i 0 below)))
+
+-- the bytes of a number spell it, if it is narrow enough
+spell_back : (w v : ℕ) → v < 256 ^ w → spell 0 (octets w v) ≡ v
+spell_back w v small = spell_octets w v 0 ∙ ap (λ x. x + v % 256 ^ w) (zero-mul (256 ^ w)) ∙ zero-add (v % 256 ^ w) ∙ mod-eq_of_lt small
 
 -- a number that was laid over a list is read back, if it is narrow enough
 pub number_there : (w : ℕ) (bs : List ℕ) (at v : ℕ) → at + w ≤ length bs → v < 256 ^ w → number_at w (over bs at (octets w v)) at ≡ v
@@ -187,37 +169,12 @@ number_there w bs at v h small =
     let long = length_octets w v in
     ap (λ n. spell 0 (take n (drop at (over bs at (octets w v))))) (sym long)
     ∙ ap (spell 0) (over_there bs at (octets w v) (omega arith))
-    ∙ spell_octets w v 0
-    ∙ ap (λ x. x + v % 256 ^ w) (zero-mul (256 ^ w)) ∙ zero-add (v % 256 ^ w) ∙ mod-eq_of_lt small
+    ∙ spell_back w v small
 
 -- a number elsewhere is as it was
 pub number_elsewhere : (w : ℕ) (bs : List ℕ) (at : ℕ) (vs : List ℕ) (k : ℕ) → (k + w ≤ at) ⊎ (at + length vs ≤ k) → number_at w (over bs at vs) k ≡ number_at w bs k
 number_elsewhere w bs at vs k apart =
     number_same w (over bs at vs) bs k (length_over bs at vs) (λ i l. over_other bs at vs (k + i) (elim apart [ inl p ↦ inl (omega arith) | inr p ↦ inr (omega arith) ]))
-
--- the first of the bytes from `at` on, and those from the next on
-part_next : (w : ℕ) (bs : List ℕ) (at on : ℕ) → on ≡ at + 1 → at < length bs → take (suc w) (drop at bs) ≡ get_or bs at 0 ∷ take w (drop on bs)
-part_next w bs at on e h = ap (take (suc w)) (drop_more bs at 0 h) ∙ ap (λ i. get_or bs at 0 ∷ take w (drop i bs)) (sym e)
-
--- eight bytes, one by one
-pub part_eight : (bs : List ℕ) (at : ℕ) → at + 8 ≤ length bs
-    → take 8 (drop at bs) ≡ get_or bs at 0 ∷ get_or bs (at + 1) 0 ∷ get_or bs (at + 2) 0 ∷ get_or bs (at + 3) 0 ∷ get_or bs (at + 4) 0 ∷ get_or bs (at + 5) 0 ∷ get_or bs (at + 6) 0 ∷ get_or bs (at + 7) 0 ∷ []
-part_eight bs at h =
-    let p0 = part_next 7 bs at (at + 1) refl (omega arith) in
-    let p1 = part_next 6 bs (at + 1) (at + 2) (omega arith) (omega arith) in
-    let p2 = part_next 5 bs (at + 2) (at + 3) (omega arith) (omega arith) in
-    let p3 = part_next 4 bs (at + 3) (at + 4) (omega arith) (omega arith) in
-    let p4 = part_next 3 bs (at + 4) (at + 5) (omega arith) (omega arith) in
-    let p5 = part_next 2 bs (at + 5) (at + 6) (omega arith) (omega arith) in
-    let p6 = part_next 1 bs (at + 6) (at + 7) (omega arith) (omega arith) in
-    let p7 = part_next 0 bs (at + 7) (at + 8) (omega arith) (omega arith) in
-    rw (p0, p1, p2, p3, p4, p5, p6, p7)
-
--- what eight bytes spell
-pub spell_eight : (a b c d e f g h : ℕ) → a * 72057594037927936 + b * 281474976710656 + c * 1099511627776 + d * 4294967296 + e * 16777216 + f * 65536 + g * 256 + h
-    ≡ spell 0 (a ∷ b ∷ c ∷ d ∷ e ∷ f ∷ g ∷ h ∷ [])
-unfolding spell
-spell_eight a b c d e f g h = omega arith
 
 -- a doubleword's bytes as the numbers' own method gives them
 pub eight_octets : (v : ℕ) → (v / 72057594037927936 % 256) ∷ (v / 281474976710656 % 256) ∷ (v / 1099511627776 % 256) ∷ (v / 4294967296 % 256)
@@ -256,13 +213,7 @@ unfolding octets
 zeros_more bs at n =
     ap (λ k. over (over bs at (replicate n 0)) (at + k) (replicate 8 0)) (sym (length-replicate n 0))
     ∙ over_over bs at (replicate n 0) (replicate 8 0)
-    ∙ ap (over bs at) (replicate_more n 8)
-  where
-    replicate_more : (n k : ℕ) → ◌++◌ {A = ℕ} (replicate n 0) (replicate k 0) ≡ replicate (n + k) 0
-    replicate_more zero k = ap (λ i. replicate i 0) (sym (zero-add k))
-    replicate_more (suc n) k =
-        let on : suc n + k ≡ suc (n + k) = omega arith in
-        ap (λ xs. 0 ∷ xs) (replicate_more n k) ∙ ap (λ i. replicate i 0) (sym on)
+    ∙ ap (over bs at) (replicate-append-replicate n 8 0)
 
 -- bytes laid over bytes are bytes
 pub octets_over : (bs : List ℕ) (at : ℕ) (vs : List ℕ) → Octets bs → Octets vs → Octets (over bs at vs)
@@ -286,11 +237,16 @@ octets_zeros zero i = lit< tt
 octets_zeros (suc n) zero = lit< tt
 octets_zeros (suc n) (suc i) = octets_zeros n i
 
+octets_drop : (at : ℕ) (bs : List ℕ) → Octets bs → Octets (drop at bs)
+octets_drop zero bs o i = o i
+octets_drop (suc at) [] o i = lit< tt
+octets_drop (suc at) (b ∷ bs) o i = octets_drop at bs (λ j. o (suc j)) i
+
 -- what `w` bytes spell after `n`
 spell_below : (w n : ℕ) (bs : List ℕ) → Octets bs → spell n (take w bs) < (n + 1) * 256 ^ w
 unfolding spell
 spell_below zero n bs o = omega arith
-spell_below (suc w) n [] o = let k : (n + 1) * 1 ≤ (n + 1) * 256 ^ suc w = mul-le-mul_left (n + 1) (pow_pos (suc w)) in omega arith
+spell_below (suc w) n [] o = let k : (n + 1) * 1 ≤ (n + 1) * 256 ^ suc w = mul-le-mul_left (n + 1) (one-le-pow (suc w) 256 (lit< tt)) in omega arith
 spell_below (suc w) n (b ∷ bs) o =
     let h = spell_below w (n * 256 + b) bs (λ i. o (suc i)) in
     let small : n * 256 + b + 1 ≤ (n + 1) * 256 = let l = o 0 in omega arith in
@@ -307,8 +263,12 @@ number_below w bs at o =
     let h = spell_below w 0 (drop at bs) (octets_drop at bs o) in
     let one = one-mul (256 ^ w) in
     omega arith
-  where
-    octets_drop : (at : ℕ) (bs : List ℕ) → Octets bs → Octets (drop at bs)
-    octets_drop zero bs o i = o i
-    octets_drop (suc at) [] o i = lit< tt
-    octets_drop (suc at) (b ∷ bs) o i = octets_drop at bs (λ j. o (suc j)) i
+
+-- the first eight bytes from `at` on spell the number that the library's method gives of them
+pub number_eight : (bs : List ℕ) (at n : ℕ) (chunk : List ℕ) → Octets bs → IsFirstChunk (take (length bs - at) (drop at bs)) chunk 8 → n ≡ from_be_bytes w64 chunk → n < 2 ^ 64 → n ≡ number_at 8 bs at
+unfolding number_at
+number_eight bs at n chunk o front e small =
+    let long : length chunk ≡ 8 = ap length front.same ∙ length-take-le 8 _ front.enough in
+    let part : chunk ≡ take 8 (drop at bs) = front.same ∙ ap (take 8) (take_rest bs at) in
+    let bytes : Octets chunk = subst Octets (sym part) (octets_take 8 (drop at bs) (octets_drop at bs o)) in
+    sym (spell_back 8 n small) ∙ ap (spell 0) (sym (eight_octets n) ∙ be_bytes_8 chunk n long bytes e ∙ part)

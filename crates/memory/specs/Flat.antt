@@ -1,9 +1,10 @@
 -- What the flat memory means over its two buffers. Assumes nothing.
-use Rattle.std.specs.Prelude.{◌≡◌, ℕ, zero, suc, ◌*◌, ◌/◌, ◌%◌, ◌<◌, ◌≤◌, min, Bool, cond, List, [], ◌∷◌, map, length, take, drop, ◌==◌, slice_index, slice_set, refl}
+use Rattle.std.specs.Prelude.{◌≡◌, ℕ, zero, suc, ◌*◌, ◌/◌, ◌%◌, ◌<◌, ◌≤◌, min, Bool, if◌then◌else◌, List, [], ◌∷◌, map, length, take, drop, ◌==◌, slice_index, slice_set, refl}
 use Rattle.std.proofs.Common.{sym, ap, ◌∙◌, arith, mod-lt, lit<, length-take}
 use Rattle.std.proofs.lemmas.List.{length-map}
 use Rattle.memory.specs.Bytes.{Octets, octets_take}
-use Rattle.memory.specs.Soundness.{Sound}
+use Rattle.memory.specs.Soundness.{Sound, ReflexiveTransitive}
+use Rattle.memory.specs.declared.flat.Flat.{Flat}
 use Rattle.memory.specs.declared.protected.Mark.{Mark}
 use Rattle.memory.specs.declared.protected.Mark.TheVariants.{Ordinary, Secure}
 use Rattle.memory.specs.Protected.{Meaning, size_of, frames_of, number_of}
@@ -14,7 +15,7 @@ covered bytes marks = min (min (bytes / 4096) marks) 268435456
 
 -- a mark byte that is not 0 says secure
 abbrev pub mark_of : ℕ → Mark
-mark_of b = cond (b == 0) Ordinary Secure
+mark_of b = if b == 0 then Ordinary else Secure
 
 -- a buffer's elements are bytes, which this says of any list of numbers
 abbrev pub as_octets : List ℕ → List ℕ
@@ -26,16 +27,20 @@ flat bs ms =
     let n = covered (length bs) (length ms) in
     record { bytes = take (n * 4096) (as_octets bs); marks = map mark_of (take n ms) }
 
+-- what a flat memory means: what its two buffers do
+abbrev pub flat_of : Flat → Meaning
+flat_of m = flat m.bytes.now m.marks.now
+
 -- a mark buffer with a mark's number stored at a frame, where it may be
 abbrev pub restored : Bool → List ℕ → ℕ → Mark → List ℕ
-restored may ms frame k = cond may (slice_set ms frame (number_of k)) ms
+restored may ms frame k = if may then slice_set ms frame (number_of k) else ms
 
--- `n` frames are what the flat memory over two buffers has, and both buffers cover them
-pub record Counted (n : ℕ) (bs ms : List ℕ) : Type 0 where
-  pub frames : n ≡ frames_of (flat bs ms)
-  pub size : n * 4096 ≡ size_of (flat bs ms)
-  pub in_bytes : n * 4096 ≤ length bs
-  pub in_marks : n ≤ length ms
+-- `n` frames are what a flat memory has, and both buffers cover them
+pub record Counted (n : ℕ) (m : Flat) : Type 0 where
+  pub frames : n ≡ frames_of (flat_of m)
+  pub size : n * 4096 ≡ size_of (flat_of m)
+  pub in_bytes : n * 4096 ≤ length m.bytes.now
+  pub in_marks : n ≤ length m.marks.now
 
 -- what no call on a flat memory changes: the buffers' lengths, the bytes past its size, the mark bytes past its frames;
 -- and a mark byte above 1 is one that stood there before
@@ -45,6 +50,10 @@ pub record Keeps (bs ms cs ns : List ℕ) : Type 0 where
   pub bytes_past : drop (size_of (flat bs ms)) cs ≡ drop (size_of (flat bs ms)) bs
   pub marks_past : drop (frames_of (flat bs ms)) ns ≡ drop (frames_of (flat bs ms)) ms
   pub mark_bytes : (f : ℕ) → 1 < slice_index ns f → slice_index ns f ≡ slice_index ms f
+
+-- the second is over the buffers of the first, and what lies outside the memory is as it was
+abbrev pub Stays : Flat → Flat → Type 0
+Stays m n = (n.bytes.ghost_name ≡ m.bytes.ghost_name) × (n.marks.ghost_name ≡ m.marks.ghost_name) × Keeps m.bytes.now m.marks.now n.bytes.now n.marks.now
 
 pub flat_frames : (bs ms : List ℕ) → frames_of (flat bs ms) ≡ covered (length bs) (length ms)
 flat_frames bs ms = simp (length-take, length-map) (omega arith)
@@ -66,6 +75,13 @@ keeps_on bs ms cs ns ds os p q =
       bytes_past = ap (λ n. drop n ds) (sym size) ∙ q.bytes_past ∙ ap (λ n. drop n cs) size ∙ p.bytes_past;
       marks_past = ap (λ n. drop n os) (sym count) ∙ q.marks_past ∙ ap (λ n. drop n ns) count ∙ p.marks_past;
       mark_bytes = λ f above. let e = q.mark_bytes f above in e ∙ p.mark_bytes f (omega arith);
+    }
+
+pub stays : ReflexiveTransitive Stays
+stays =
+    record {
+      same = λ m. (refl, refl, keeps_itself m.bytes.now m.marks.now);
+      then = λ l m n p q. (q.0 ∙ p.0, q.1 ∙ p.1, keeps_on _ _ _ _ _ _ p.2 q.2);
     }
 
 as_octets_below : (bs : List ℕ) → Octets (as_octets bs)

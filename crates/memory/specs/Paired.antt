@@ -1,10 +1,11 @@
 -- What two memories end to end mean. Assumes nothing.
-use Rattle.std.specs.Prelude.{◌≡◌, ℕ, ◌-◌, cond, ◌&&◌, ◌++◌, take, drop, Some, None, Option, nat_le, nat_lt}
-use Rattle.std.proofs.Common.{arith, length-take, length-append}
+use Rattle.std.specs.Prelude.{◌≡◌, ℕ, ◌-◌, if◌then◌else◌, ◌&&◌, ◌++◌, take, drop, Bool, Some, None, Option, MatchOption, Result, nat_le, nat_lt, refl}
+use Rattle.std.proofs.Common.{◌∙◌, arith, length-take, length-append}
 use Rattle.memory.specs.Bytes.{octets_take, octets_append}
-use Rattle.memory.specs.declared.protected.Mark.{Mark}
-use Rattle.memory.specs.Protected.{Meaning, read_at, holds, written, has_frame, mark_at, marked}
-use Rattle.memory.specs.Soundness.{Sound}
+use Rattle.memory.specs.declared.paired.Paired.{Paired}
+use Rattle.memory.specs.declared.protected.Declined.{Declined}
+use Rattle.memory.specs.Protected.{Meaning}
+use Rattle.memory.specs.Soundness.{Sound, ReflexiveTransitive}
 
 -- the first's bytes and then the second's, cut off at 2^40 bytes, and so their marks
 unfoldable pub joined : Meaning → Meaning → Meaning
@@ -16,7 +17,7 @@ beyond m n = record { bytes = drop 1099511627776 (m.bytes ++ n.bytes); marks = d
 
 -- the place in the second part of what lies at `at`, where the second begins at `seam` and the whole ends at `most`
 abbrev pub in_second : ℕ → ℕ → ℕ → Option ℕ
-in_second at seam most = cond (nat_le seam at && nat_lt at most) (Some (at - seam)) None
+in_second at seam most = if nat_le seam at && nat_lt at most then Some (at - seam) else None
 
 pub joined_sound : (m n : Meaning) → Sound m → Sound n → Sound (joined m n)
 unfolding joined
@@ -27,29 +28,27 @@ joined_sound m n p q =
       byte = octets_take 1099511627776 (m.bytes ++ n.bytes) (octets_append m.bytes n.bytes p.byte q.byte);
     }
 
--- a call at an address of the pair is one at that address of the first, and leaves what is cut off
-pub record GoesFirst (m n : Meaning) (addr : ℕ) : Type 0 where
-  pub test : holds (joined m n) addr ≡ holds m addr
-  pub reads : read_at (joined m n) addr ≡ read_at m addr
-  pub writes : (v : ℕ) (k : Meaning) → k ≡ written m addr v → joined k n ≡ written (joined m n) addr v
-  pub leaves : (v : ℕ) (k : Meaning) → k ≡ written m addr v → beyond k n ≡ beyond m n
+-- a call at the place `at` of the pair is one at the place `up` of a part, where `whole` is what the pair means for each
+-- meaning of the part, and `cut` what is cut off: `test` says whether a place lies in a memory, `asks` is what a question
+-- there answers, and `sets` what a change there leaves
+pub record Passes {X V : Type 0} (test : Meaning → ℕ → Bool) (asks : Meaning → ℕ → Result X Declined) (sets : Meaning → ℕ → V → Meaning) (whole cut : Meaning → Meaning) (m : Meaning) (at up : ℕ) : Type 0 where
+  pub there : test (whole m) at ≡ test m up
+  pub answer : asks (whole m) at ≡ asks m up
+  pub after : (v : V) (k : Meaning) → k ≡ sets m up v → whole k ≡ sets (whole m) at v
+  pub leaves : (v : V) (k : Meaning) → k ≡ sets m up v → cut k ≡ cut m
 
--- or one at an address `up` of the second
-pub record GoesSecond (m n : Meaning) (addr up : ℕ) : Type 0 where
-  pub test : holds (joined m n) addr ≡ holds n up
-  pub reads : read_at (joined m n) addr ≡ read_at n up
-  pub writes : (v : ℕ) (k : Meaning) → k ≡ written n up v → joined m k ≡ written (joined m n) addr v
-  pub leaves : (v : ℕ) (k : Meaning) → k ≡ written n up v → beyond m k ≡ beyond m n
+-- a call at a place of the pair goes to the second where `second` is its place there, and else to the first as it is
+abbrev pub Goes : {X V : Type 0} → (Meaning → ℕ → Bool) → (Meaning → ℕ → Result X Declined) → (Meaning → ℕ → V → Meaning) → Meaning → Meaning → ℕ → Option ℕ → Type 0
+Goes test asks sets m n at second =
+    MatchOption second (Passes test asks sets (λ k. joined k n) (λ k. beyond k n) m at at) (Passes test asks sets (joined m) (beyond m) n at)
 
--- and so for a frame
-pub record FrameGoesFirst (m n : Meaning) (frame : ℕ) : Type 0 where
-  pub test : has_frame (joined m n) frame ≡ has_frame m frame
-  pub asks : mark_at (joined m n) frame ≡ mark_at m frame
-  pub marks : (t : Mark) (k : Meaning) → k ≡ marked m frame t → joined k n ≡ marked (joined m n) frame t
-  pub leaves : (t : Mark) (k : Meaning) → k ≡ marked m frame t → beyond k n ≡ beyond m n
+-- each part keeps what it keeps, and what is cut off is as it was
+abbrev pub BothKeep : {A B : Type 0} → (A → Meaning) → (B → Meaning) → (A → A → Type 0) → (B → B → Type 0) → Paired A B → Paired A B → Type 0
+BothKeep f g R S p q = R p.first q.first × S p.second q.second × (beyond (f q.first) (g q.second) ≡ beyond (f p.first) (g p.second))
 
-pub record FrameGoesSecond (m n : Meaning) (frame up : ℕ) : Type 0 where
-  pub test : has_frame (joined m n) frame ≡ has_frame n up
-  pub asks : mark_at (joined m n) frame ≡ mark_at n up
-  pub marks : (t : Mark) (k : Meaning) → k ≡ marked n up t → joined m k ≡ marked (joined m n) frame t
-  pub leaves : (t : Mark) (k : Meaning) → k ≡ marked n up t → beyond m k ≡ beyond m n
+pub both_keeping : {A B : Type 0} (f : A → Meaning) (g : B → Meaning) {R : A → A → Type 0} {S : B → B → Type 0} → ReflexiveTransitive R → ReflexiveTransitive S → ReflexiveTransitive (BothKeep f g R S)
+both_keeping f g r s =
+    record {
+      same = λ p. (r.same p.first, s.same p.second, refl);
+      then = λ o p q d e. (r.then _ _ _ d.0 e.0, s.then _ _ _ d.1 e.1, e.2 ∙ d.2);
+    }

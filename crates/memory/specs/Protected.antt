@@ -1,5 +1,5 @@
 -- What a protected memory means, and what its calls answer and leave. Assumes nothing.
-use Rattle.std.specs.Prelude.{ℕ, ◌*◌, ◌%◌, Bool, true, false, cond, ◌&&◌, List, length, replicate, Ok, Err, codes, Result, ◌==◌, nat_lt, slice_index_or, slice_set}
+use Rattle.std.specs.Prelude.{ℕ, ◌*◌, ◌%◌, Bool, true, false, if◌then◌else◌, ◌&&◌, List, length, replicate, Ok, Err, codes, Result, ◌==◌, nat_lt, slice_index_or, slice_set}
 use Rattle.memory.specs.declared.protected.Mark.{Mark}
 use Rattle.memory.specs.declared.protected.Mark.TheVariants.{Ordinary, Secure}
 use Rattle.memory.specs.declared.protected.Declined.{Declined}
@@ -50,15 +50,15 @@ declined = record {}
 
 -- a call that only acts answers that it is done, or declines
 abbrev pub answered : Bool → Result (Unit {0}) Declined
-answered b = cond b (Ok tt) (Err declined)
+answered b = if b then Ok tt else Err declined
 
 -- a read answers the doubleword, or declines where none lies
 abbrev pub read_at : Meaning → ℕ → Result ℕ Declined
-read_at m addr = cond (holds m addr) (Ok (number_at 8 m.bytes addr)) (Err declined)
+read_at m addr = if holds m addr then Ok (number_at 8 m.bytes addr) else Err declined
 
 -- bytes with a doubleword stored at an address, where it may be
 abbrev pub stored : Bool → List ℕ → ℕ → ℕ → List ℕ
-stored may bs addr v = cond may (over bs addr (octets 8 v)) bs
+stored may bs addr v = if may then over bs addr (octets 8 v) else bs
 
 -- a write changes the doubleword's eight bytes, and nothing where none lies
 abbrev pub written : Meaning → ℕ → ℕ → Meaning
@@ -66,12 +66,12 @@ written m addr v = record { bytes = stored (holds m addr) m.bytes addr v; marks 
 
 -- a question for a mark answers it, or declines a frame beyond the memory
 abbrev pub mark_at : Meaning → ℕ → Result Mark Declined
-mark_at m frame = cond (has_frame m frame) (Ok (slice_index_or m.marks frame Ordinary)) (Err declined)
+mark_at m frame = if has_frame m frame then Ok (slice_index_or m.marks frame Ordinary) else Err declined
 
 -- setting a mark changes that mark alone, and nothing beyond the memory
 abbrev pub marked : Meaning → ℕ → Mark → Meaning
-marked m frame k = record { bytes = m.bytes; marks = cond (has_frame m frame) (slice_set m.marks frame k) m.marks }
+marked m frame k = record { bytes = m.bytes; marks = if has_frame m frame then slice_set m.marks frame k else m.marks }
 
 -- filling a frame with zeros changes its 4,096 bytes alone, and nothing beyond the memory
 abbrev pub zeroed : Meaning → ℕ → Meaning
-zeroed m frame = record { bytes = cond (has_frame m frame) (over m.bytes (frame * 4096) (replicate 4096 0)) m.bytes; marks = m.marks }
+zeroed m frame = record { bytes = if has_frame m frame then over m.bytes (frame * 4096) (replicate 4096 0) else m.bytes; marks = m.marks }

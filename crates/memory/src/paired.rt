@@ -1,15 +1,9 @@
 //! The paired memory: any two protected memories end to end.
-ghost use Rattle.std.specs.Prelude.{◌≡◌, ◌+◌, ◌^◌, ◌<◌, ◌≤◌, min, MatchOption, refl};
-ghost use Rattle.std.proofs.Common.{◌∙◌};
-ghost use Rattle.memory.specs.Paired.{joined, joined_sound, in_second, beyond, GoesFirst, GoesSecond, FrameGoesFirst, FrameGoesSecond};
+ghost use Rattle.std.specs.Prelude.{◌≡◌, ◌+◌, ◌^◌, ◌<◌, ◌≤◌, min};
+ghost use Rattle.memory.specs.Protected.{holds, read_at, written, has_frame, mark_at, marked};
+ghost use Rattle.memory.specs.Paired.{joined, joined_sound, in_second, Goes, BothKeep, both_keeping};
 
-use crate::protected::{Declined, Mark, ProtectedMemory};
-
-/// The most bytes that a memory has.
-const MOST_BYTES: u64 = 1 << 40;
-
-/// The most frames that a memory has.
-const MOST_FRAMES: u64 = 1 << 28;
+use crate::protected::{Declined, MOST_BYTES, MOST_FRAMES, Mark, ProtectedMemory};
 
 /// Two memories end to end, the first's bytes below the second's, cut off at 2^40 bytes.
 ///
@@ -26,29 +20,23 @@ fn second_place(at: u64, seam: u64, most: u64) -> Option<u64>
     ensures { result ≡ in_second at seam most }
 {
     let up = at.wrapping_sub(seam);
-    if up < most - seam { Some(up) } else { None }
-}
-
-// How many there are in two memories together, cut off at `most`.
-fn together(first: u64, second: u64, most: u64) -> u64
-    requires { first + second < 2 ^ 64 }
-    ensures { result ≡ min most (first + second) }
-{
-    (first + second).min(most)
+    (up < most - seam).then_some(up)
 }
 
 impl<A: ProtectedMemory, B: ProtectedMemory> Paired<A, B> {
     // The address in the second memory to which a call goes on, or none where it goes on to the first as it is: the
     // first declines an address past the cut.
+    #[tactic(auto, using(crate::proofs::Ends::byte_goes))]
     fn byte_place(&self, addr: u64) -> Option<u64>
-        ensures { MatchOption result (GoesFirst (A.ProtectedMemory.meaning self.now.first) (B.ProtectedMemory.meaning self.now.second) addr) (GoesSecond (A.ProtectedMemory.meaning self.now.first) (B.ProtectedMemory.meaning self.now.second) addr) }
+        ensures { Goes holds read_at written (A.ProtectedMemory.meaning self.now.first) (B.ProtectedMemory.meaning self.now.second) addr result }
     {
         second_place(addr, self.first.size(), MOST_BYTES)
     }
 
-    // The same for a frame.
+    // The same for a frame; one function for both would be told by a closure what to ask of the first, and be longer.
+    #[tactic(auto, using(crate::proofs::Ends::frame_goes))]
     fn frame_place(&self, frame: u64) -> Option<u64>
-        ensures { MatchOption result (FrameGoesFirst (A.ProtectedMemory.meaning self.now.first) (B.ProtectedMemory.meaning self.now.second) frame) (FrameGoesSecond (A.ProtectedMemory.meaning self.now.first) (B.ProtectedMemory.meaning self.now.second) frame) }
+        ensures { Goes has_frame mark_at marked (A.ProtectedMemory.meaning self.now.first) (B.ProtectedMemory.meaning self.now.second) frame result }
     {
         second_place(frame, self.first.frames(), MOST_FRAMES)
     }
@@ -59,15 +47,16 @@ impl<A: ProtectedMemory, B: ProtectedMemory> ProtectedMemory for Paired<A, B> {
 
     ghost sound = { λ p. joined_sound _ _ (A.ProtectedMemory.sound p.first) (B.ProtectedMemory.sound p.second) };
 
-    // each part keeps what it keeps, and what lies past the cut is as it was
-    ghost keeps = { λ p q. A.ProtectedMemory.keeps p.first q.first × B.ProtectedMemory.keeps p.second q.second × (beyond (A.ProtectedMemory.meaning q.first) (B.ProtectedMemory.meaning q.second) ≡ beyond (A.ProtectedMemory.meaning p.first) (B.ProtectedMemory.meaning p.second)) };
+    ghost keeps = { BothKeep A.ProtectedMemory.meaning B.ProtectedMemory.meaning A.ProtectedMemory.keeps B.ProtectedMemory.keeps };
 
-    ghost keeping = { record { same = λ p. (A.ProtectedMemory.keeping.same p.first, B.ProtectedMemory.keeping.same p.second, refl); then = λ p q r d e. (A.ProtectedMemory.keeping.then _ _ _ d.0 e.0, B.ProtectedMemory.keeping.then _ _ _ d.1 e.1, e.2 ∙ d.2) } };
+    ghost keeping = { both_keeping _ _ A.ProtectedMemory.keeping B.ProtectedMemory.keeping };
 
+    #[tactic(auto, using(crate::proofs::Ends::size_joined))]
     fn size(&self) -> u64 {
-        together(self.first.size(), self.second.size(), MOST_BYTES)
+        (self.first.size() + self.second.size()).min(MOST_BYTES)
     }
 
+    // Each call names its method for either part: a function over both parts would take two closures a call.
     fn read(&self, addr: u64) -> Result<u64, Declined> {
         match self.byte_place(addr) {
             Some(up) => self.second.read(up),

@@ -6,32 +6,34 @@ ghost use Rattle.memory.specs.Soundness.{Sound, ReflexiveTransitive};
 use std::error::Error;
 use std::fmt;
 
+/// The most frames that a memory has.
+pub(crate) const MOST_FRAMES: u64 = 1 << 28;
+
+/// The most bytes that a memory has.
+pub(crate) const MOST_BYTES: u64 = MOST_FRAMES * 4096;
+
 /// A frame's mark.
 #[derive(Debug, Clone, Copy, PartialEq, Eq)]
 pub enum Mark {
-    Ordinary,
-    Secure,
+    Ordinary = 0,
+    Secure = 1,
 }
 
 impl Mark {
-    /// 0 for ordinary, 1 for secure.
-    pub fn number(self) -> u8
-        ensures { result ≡ number_of self }
-    {
-        match self {
-            Mark::Ordinary => 0,
-            Mark::Secure => 1,
-        }
-    }
-
     /// Whether the mark is secure.
     pub fn is_secure(self) -> bool
         ensures { result ≡ is_secure self }
     {
-        match self {
-            Mark::Ordinary => false,
-            Mark::Secure => true,
-        }
+        matches!(self, Mark::Secure)
+    }
+}
+
+/// A mark's number.
+impl From<Mark> for u8 {
+    ghost from_gives = { λ mark n. n ≡ number_of mark };
+
+    fn from(mark: Mark) -> u8 {
+        mark as u8
     }
 }
 
@@ -50,6 +52,7 @@ impl fmt::Display for Mark {
 #[derive(Debug, Clone, Copy, PartialEq, Eq)]
 pub struct Declined;
 
+// Written out, so that its text stands in a clause: a derived one would be its own promise.
 impl fmt::Display for Declined {
     ghost output = { λ _. Some (codes "declined: the memory has no such doubleword or frame") };
 

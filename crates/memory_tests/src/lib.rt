@@ -19,6 +19,7 @@ mod flat_tests;
 mod paired_tests;
 
 /// Writes a doubleword and reads it back.
+#[tactic(auto, using(memory::proofs::Laws::read_back))]
 pub fn put_and_get<M: ProtectedMemory>(
     memory: &mut M,
     addr: u64,

@@ -1,4 +1,6 @@
 //! The paired memory: its seam, nests of three, and declines.
+ghost use Rattle.std.specs.Prelude.{◌+◌, ◌*◌, ◌≤◌, length};
+
 use crate::checks::{declines_addresses, declines_frames};
 use crate::{put_and_get, size_of_three};
 use memory::flat::Flat;
@@ -7,21 +9,32 @@ use memory::protected::{Declined, Mark, ProtectedMemory};
 use memory::zeroing::zero_frame;
 use std::process::Abort;
 
+// Two memories end to end, each over its own buffers.
+fn in_two<'a>(
+    low: &'a mut [u8],
+    low_marks: &'a mut [u8],
+    high: &'a mut [u8],
+    high_marks: &'a mut [u8],
+) -> Paired<Flat<'a>, Flat<'a>> {
+    Paired {
+        first: Flat {
+            bytes: low,
+            marks: low_marks,
+        },
+        second: Flat {
+            bytes: high,
+            marks: high_marks,
+        },
+    }
+}
+
 #[test]
 fn the_second_begins_where_the_first_ends(rt: HostRuntime) {
     let mut low = [1u8; 4096];
     let mut low_marks = [0u8; 1];
     let mut high = [2u8; 5000];
     let mut high_marks = [3u8; 9];
-    let first = Flat {
-        bytes: &mut low,
-        marks: &mut low_marks,
-    };
-    let second = Flat {
-        bytes: &mut high,
-        marks: &mut high_marks,
-    };
-    let mut memory = Paired { first, second };
+    let mut memory = in_two(&mut low, &mut low_marks, &mut high, &mut high_marks);
     assert_eq!(rt; memory.size(), 8192);
     assert_eq!(rt; memory.frames(), 2);
     assert_eq!(rt; memory.read(4088), Ok(0x0101_0101_0101_0101));
@@ -46,15 +59,7 @@ fn a_pair_declines_and_changes_nothing(rt: HostRuntime) {
     let mut low_marks = [4u8; 2];
     let mut high = [2u8; 4100];
     let mut high_marks = [0u8; 2];
-    let first = Flat {
-        bytes: &mut low,
-        marks: &mut low_marks,
-    };
-    let second = Flat {
-        bytes: &mut high,
-        marks: &mut high_marks,
-    };
-    let mut memory = Paired { first, second };
+    let mut memory = in_two(&mut low, &mut low_marks, &mut high, &mut high_marks);
     declines_addresses(
         &rt,
         &mut memory,
@@ -94,18 +99,33 @@ fn fill_three<M: ProtectedMemory>(rt: &impl Abort, memory: &mut M) {
     assert_eq!(rt; memory.read(8192), Ok(0x33));
 }
 
+// Three memories over one byte buffer and one mark buffer: of so many frames the first two, and the third over the rest.
+fn in_three<'a>(
+    bytes: &'a mut [u8],
+    marks: &'a mut [u8],
+    first: usize,
+    second: usize,
+) -> (Flat<'a>, Flat<'a>, Flat<'a>)
+    requires bytes { (first + second) * 4096 ≤ length bytes.old }
+    requires marks { first + second ≤ length marks.old }
+{
+    let (a, rest) = bytes.split_at_mut(first * 4096);
+    let (b, c) = rest.split_at_mut(second * 4096);
+    let (x, others) = marks.split_at_mut(first);
+    let (y, z) = others.split_at_mut(second);
+    (
+        Flat { bytes: a, marks: x },
+        Flat { bytes: b, marks: y },
+        Flat { bytes: c, marks: z },
+    )
+}
+
 #[test]
 fn a_nest_in_either_place_is_one_memory(rt: HostRuntime) {
     let mut bytes = [0u8; 12288];
     let mut marks = [0u8; 3];
     {
-        let (a, rest) = bytes.split_at_mut(4096);
-        let (b, c) = rest.split_at_mut(4096);
-        let (x, others) = marks.split_at_mut(1);
-        let (y, z) = others.split_at_mut(1);
-        let first = Flat { bytes: a, marks: x };
-        let second = Flat { bytes: b, marks: y };
-        let third = Flat { bytes: c, marks: z };
+        let (first, second, third) = in_three(&mut bytes, &mut marks, 1, 1);
         let mut nest = Paired {
             first,
             second: Paired {
@@ -139,12 +159,6 @@ fn a_nest_in_either_place_is_one_memory(rt: HostRuntime) {
 fn sizes_of_three_add_up(rt: HostRuntime) {
     let mut bytes = [0u8; 20480];
     let mut marks = [0u8; 5];
-    let (a, rest) = bytes.split_at_mut(8192);
-    let (b, c) = rest.split_at_mut(4096);
-    let (x, others) = marks.split_at_mut(2);
-    let (y, z) = others.split_at_mut(1);
-    let first = Flat { bytes: a, marks: x };
-    let second = Flat { bytes: b, marks: y };
-    let third = Flat { bytes: c, marks: z };
+    let (first, second, third) = in_three(&mut bytes, &mut marks, 2, 1);
     assert_eq!(rt; size_of_three(first, second, third), 20480);
 }

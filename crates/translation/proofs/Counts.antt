@@ -9,6 +9,7 @@ use Rattle.translation.specs.declared.fault.Layer.TheVariants.{Partition, Storag
 use Rattle.translation.specs.declared.fault.Fault.{Fault}
 use Rattle.translation.specs.declared.fault.Setting.{Setting}
 use Rattle.translation.specs.declared.fault.Site.{Site}
+use Rattle.translation.specs.declared.tables.Half.{Half}
 use Rattle.translation.specs.declared.registers.Route.{Route}
 use Rattle.translation.specs.declared.registers.Route.TheVariants.{NoSegment, AtReal, AtGuest, AtProcess}
 use Rattle.translation.specs.declared.datum.Ask.{Ask}
@@ -48,20 +49,20 @@ module _ (s : Setting) (x : State) where
       go true false = tt
       go false c = fault_stops s site Storage Beyond a x.count
 
-  entered_stops : (second : Bool) → Stops (entered s x second) x.count
-  entered_stops second = go (ltb s.lpid s.entries) (ltb (entry_place s second) (size_of x.memory))
+  entered_stops : (half : Half) → Stops (entered s x half) x.count
+  entered_stops half = go (ltb s.lpid s.entries) (ltb (entry_place s half) (size_of x.memory))
     where
-      go : (b c : Bool) → Stops {A = Unit {0}} (cond b (cond c (Ok tt) (Err (fault_at s partition_site Storage Beyond (entry_place s second) x.count))) (Err (fault_at s partition_site Partition Index 0 x.count))) x.count
+      go : (b c : Bool) → Stops {A = Unit {0}} (cond b (cond c (Ok tt) (Err (fault_at s partition_site Storage Beyond (entry_place s half) x.count))) (Err (fault_at s partition_site Partition Index 0 x.count))) x.count
       go true true = tt
-      go true false = fault_stops s partition_site Storage Beyond (entry_place s second) x.count
+      go true false = fault_stops s partition_site Storage Beyond (entry_place s half) x.count
       go false c = fault_stops s partition_site Partition Index 0 x.count
 
 stops : (A : Type 0) (s : Setting) (p : Program A) (x : State) → Stops (run s x p).0 (run s x p).1.count
 stops A s (ret a) x = tt
 stops A s (check site l r) x = faulted_stops s site l x.count r
 stops A s (reach site a) x = reached_stops s x site a
-stops A s (partition_word second) x =
-    then_stops (entered s x second, x) (λ _ st. (Ok (doubleword st.memory (entry_place s second)), counted st)) (entered_stops s x second) λ a st. tt
+stops A s (partition_word half) x =
+    then_stops (entered s x half, x) (λ _ st. (Ok (doubleword st.memory (entry_place s half)), counted st)) (entered_stops s x half) λ a st. tt
 stops A s (table_word site a) x =
     then_stops (reached s x site a, x) (λ _ st. (Ok (doubleword st.memory a), counted st)) (reached_stops s x site a) λ a st. tt
 stops A s (reached_word a) x = tt

@@ -18,6 +18,8 @@ use Rattle.translation.specs.declared.fault.Fault.{Fault}
 use Rattle.translation.specs.declared.fault.Setting.{Setting}
 use Rattle.translation.specs.declared.fault.Site.{Site}
 use Rattle.translation.specs.declared.tables.Leaf.{Leaf}
+use Rattle.translation.specs.declared.tables.Half.{Half}
+use Rattle.translation.specs.declared.tables.Half.TheVariants.{First, Second}
 use Rattle.translation.specs.Fault.{fault_at}
 use Rattle.translation.specs.Tables.{settling_bits, is_settled}
 use Rattle.translation.specs.Program.{Program, ret, check, reach, partition_word, table_word, reached_word, settle, amend, datum_word, put_word, tally, bind, secure_at, reachable, doubleword, State, Outcome, reached, partition_site, entry_place, entered, counted, read_reached, write_reached, amended, settled, then_do, run}
@@ -70,9 +72,9 @@ module _ (s : Setting) (m n : Meaning) (h : Alike s m n) where
       h.bytes (a / 8 * 8 + i) (inl (secure_frame m (a / 8 * 8 + i) a q ∙ o))
 
   -- a doubleword of the partition's entry
-  entry_same : (second : Bool) → s.table % 8 ≡ 0 → s.lpid < s.entries → doubleword m (entry_place s second) ≡ doubleword n (entry_place s second)
-  entry_same true even l = doubleword_same (entry_place s true) λ i k. h.bytes _ (inr (omega arith, omega arith))
-  entry_same false even l = doubleword_same (entry_place s false) λ i k. h.bytes _ (inr (omega arith, omega arith))
+  entry_same : (half : Half) → s.table % 8 ≡ 0 → s.lpid < s.entries → doubleword m (entry_place s half) ≡ doubleword n (entry_place s half)
+  entry_same Second even l = doubleword_same (entry_place s Second) λ i k. h.bytes _ (inr (omega arith, omega arith))
+  entry_same First even l = doubleword_same (entry_place s First) λ i k. h.bytes _ (inr (omega arith, omega arith))
 
   read_same : (a : ℕ) → s.confined ≡ true → read_reached s m a ≡ read_reached s n a
   read_same a c = go (reachable s m a) (reachable_open s m a c) ∙ ap (λ (b : Bool). cond b (doubleword n a) 0) (reachable_same a)
@@ -130,11 +132,11 @@ module _ (s : Setting) (x y : State) (h : AlikeState s x y) where
         state = h;
       }
 
-  entered_same : (second : Bool) → SameOutcome s (entered s x second, x) (entered s y second, y)
-  entered_same second =
+  entered_same : (half : Half) → SameOutcome s (entered s x half, x) (entered s y half, y)
+  entered_same half =
       record {
         answer = λ i. cond (ltb s.lpid s.entries)
-            (cond (ltb (entry_place s second) (h.memory.size i)) (Ok tt) (Err (fault_at s partition_site Storage Beyond (entry_place s second) (h.count i))))
+            (cond (ltb (entry_place s half) (h.memory.size i)) (Ok tt) (Err (fault_at s partition_site Storage Beyond (entry_place s half) (h.count i))))
             (Err (fault_at s partition_site Partition Index 0 (h.count i)));
         state = h;
       }
@@ -149,19 +151,19 @@ module _ (s : Setting) (x y : State) (h : AlikeState s x y) where
   table_same : (site : Site) (a : ℕ) (u : Unit {0}) → s.confined ≡ true → reached s x site a ≡ Ok u → doubleword x.memory a ≡ doubleword y.memory a
   table_same site a u c k = open_same s x.memory y.memory h.memory a (reached_cases s.confined _ (secure_at x.memory a) _ _ u c k)
 
-  partition_same : (second : Bool) (u : Unit {0}) → s.table % 8 ≡ 0 → entered s x second ≡ Ok u
-      → doubleword x.memory (entry_place s second) ≡ doubleword y.memory (entry_place s second)
-  partition_same second u even k =
-      entry_same s x.memory y.memory h.memory second even (ltb-true s.lpid s.entries (entered_cases (ltb s.lpid s.entries) _ _ _ u k))
+  partition_same : (half : Half) (u : Unit {0}) → s.table % 8 ≡ 0 → entered s x half ≡ Ok u
+      → doubleword x.memory (entry_place s half) ≡ doubleword y.memory (entry_place s half)
+  partition_same half u even k =
+      entry_same s x.memory y.memory h.memory half even (ltb-true s.lpid s.entries (entered_cases (ltb s.lpid s.entries) _ _ _ u k))
 
 -- an ordinary thread's access answers the same, and leaves alike, on memories that are alike for it
 pub isolated : (A : Type 0) (s : Setting) (p : Program A) (x y : State) → s.confined ≡ true → s.table % 8 ≡ 0 → AlikeState s x y → SameOutcome s (run s x p) (run s y p)
 isolated A s (ret a) x y c e h = record { answer = refl; state = h }
 isolated A s (check site l r) x y c e h = checked_same s x y h site l r
 isolated A s (reach site a) x y c e h = reached_same s x y h site a
-isolated A s (partition_word second) x y c e h =
-    then_same s _ _ (λ _ st. (Ok (doubleword st.memory (entry_place s second)), counted st)) (entered_same s x y h second)
-    λ u k. record { answer = ap Ok (partition_same s x y h second u e k); state = counted_same s x y h }
+isolated A s (partition_word half) x y c e h =
+    then_same s _ _ (λ _ st. (Ok (doubleword st.memory (entry_place s half)), counted st)) (entered_same s x y h half)
+    λ u k. record { answer = ap Ok (partition_same s x y h half u e k); state = counted_same s x y h }
 isolated A s (table_word site a) x y c e h =
     then_same s _ _ (λ _ st. (Ok (doubleword st.memory a), counted st)) (reached_same s x y h site a)
     λ u k. record { answer = ap Ok (table_same s x y h site a u c k); state = counted_same s x y h }
@@ -231,8 +233,8 @@ pub kept : (A : Type 0) (s : Setting) (p : Program A) (x : State) → s.confined
 kept A s (ret a) x c = kept_same x.memory
 kept A s (check site l r) x c = kept_same x.memory
 kept A s (reach site a) x c = kept_same x.memory
-kept A s (partition_word second) x c =
-    then_kept x.memory (entered s x second, x) (λ _ st. (Ok (doubleword st.memory (entry_place s second)), counted st)) (kept_same x.memory) λ a st h. h
+kept A s (partition_word half) x c =
+    then_kept x.memory (entered s x half, x) (λ _ st. (Ok (doubleword st.memory (entry_place s half)), counted st)) (kept_same x.memory) λ a st h. h
 kept A s (table_word site a) x c =
     then_kept x.memory (reached s x site a, x) (λ _ st. (Ok (doubleword st.memory a), counted st)) (kept_same x.memory) λ a st h. h
 kept A s (reached_word a) x c = kept_same x.memory
@@ -289,8 +291,8 @@ shaped : (A : Type 0) (s : Setting) (p : Program A) (x : State) → Shaped x.mem
 shaped A s (ret a) x = shaped_same x.memory
 shaped A s (check site l r) x = shaped_same x.memory
 shaped A s (reach site a) x = shaped_same x.memory
-shaped A s (partition_word second) x =
-    then_shaped x.memory (entered s x second, x) (λ _ st. (Ok (doubleword st.memory (entry_place s second)), counted st)) (shaped_same x.memory) λ a st h. h
+shaped A s (partition_word half) x =
+    then_shaped x.memory (entered s x half, x) (λ _ st. (Ok (doubleword st.memory (entry_place s half)), counted st)) (shaped_same x.memory) λ a st h. h
 shaped A s (table_word site a) x =
     then_shaped x.memory (reached s x site a, x) (λ _ st. (Ok (doubleword st.memory a), counted st)) (shaped_same x.memory) λ a st h. h
 shaped A s (reached_word a) x = shaped_same x.memory

@@ -1,5 +1,5 @@
 -- One access, step by step. Assumes nothing.
-use Rattle.std.specs.Prelude.{ℕ, zero, suc, ◌+◌, ◌%◌, ◌≤◌, Bool, true, false, cond, Some, None, Ok, Err, Result}
+use Rattle.std.specs.Prelude.{ℕ, zero, suc, ◌+◌, ◌%◌, ◌≤◌, Bool, cond, Some, None, Ok, Err, Option, Result}
 use Rattle.translation.specs.declared.fault.Kind.{Kind}
 use Rattle.translation.specs.declared.fault.Kind.TheVariants.{Load, Store, Fetch}
 use Rattle.translation.specs.declared.fault.Cause.TheVariants.{Segment, Unsupported, Invalid}
@@ -11,9 +11,8 @@ use Rattle.translation.specs.declared.fault.Fault.{Fault}
 use Rattle.translation.specs.declared.fault.Site.{Site}
 use Rattle.translation.specs.declared.tables.Table.{Table}
 use Rattle.translation.specs.declared.tables.Leaf.{Leaf}
+use Rattle.translation.specs.declared.tables.Half.TheVariants.{First, Second}
 use Rattle.translation.specs.declared.tables.Step.TheVariants.{Next, Found}
-use Rattle.translation.specs.declared.tables.Scope.{Scope}
-use Rattle.translation.specs.declared.tables.Scope.TheVariants.{Real, Guest}
 use Rattle.translation.specs.declared.tables.Partition.{Partition as Entry}
 use Rattle.translation.specs.declared.partition.Reached.{Reached}
 use Rattle.translation.specs.declared.registers.Registers.{Registers}
@@ -45,54 +44,58 @@ abbrev pub partition_walk : Purpose → ℕ → ℕ → ℕ → Table → Progra
 partition_walk p a = walk (λ d place. table_word (site_of p d a) place) Partition p a a
 
 -- to guest-reach an address: walk the partition's tree on it, check the leaf's right, and reach what it gives;
--- for LPID 0 the address is real, and is only reached
-unfoldable pub guest_reach : Scope → Purpose → Kind → ℕ → Program Reached
-guest_reach Real p k a = bind (reach (site_of p 0 0) a) (λ _. ret (record { real = a; leaf = None }))
-guest_reach (Guest t) p k a =
+-- for LPID 0 there is no such tree: the address is real, and is only reached
+unfoldable pub guest_reach : Option Table → Purpose → Kind → ℕ → Program Reached
+guest_reach None p k a = bind (reach (site_of p 0 0) a) (λ _. ret (record { real = a; leaf = None }))
+guest_reach (Some t) p k a =
     bind (check (site_of p 0 a) Partition (inside_of t a Invalid)) (λ _.
     bind (partition_walk p a 4 0 t) (λ l.
     bind (check (site_of p l.depth a) Partition (right_of p k l.word)) (λ _.
     bind (reach (site_of p l.depth a) l.address) (λ _.
     ret (record { real = l.address; leaf = Some l })))))
 
+-- a table's doubleword that was guest-reached: the leaf that led there settled for a load, and then read
+abbrev pub settled_word : Reached → Program ℕ
+settled_word g = bind (settle Load g.leaf) (λ _. reached_word g.real)
+
 -- a table's doubleword under the partition: guest-reached for a load, that leaf settled, and then read
-unfoldable pub guest_word : Scope → Purpose → ℕ → Program ℕ
-guest_word scope p a =
-    bind (guest_reach scope p Load a) (λ g.
-    bind (settle Load g.leaf) (λ _.
-    reached_word g.real))
+unfoldable pub guest_word : Option Table → Purpose → ℕ → Program ℕ
+guest_word under p a = bind (guest_reach under p Load a) (λ g. settled_word g)
 
 -- step 5: both doublewords of the partition's entry
 unfoldable pub partition_entry : ℕ → Program Entry
 partition_entry lpid =
-    bind (partition_word false) (λ x.
-    bind (partition_word true) (λ y.
+    bind (partition_word First) (λ x.
+    bind (partition_word Second) (λ y.
     check partition_site Partition (partition_of lpid x y)))
 
 -- step 6: the process entry's first doubleword
 unfoldable pub process_entry : Entry → ℕ → Program ℕ
 process_entry e pid =
     bind (check (site_of ProcessEntry 0 0) Process (process_place e.process_table pid)) (λ place.
-    guest_word e.scope ProcessEntry place)
+    guest_word e.tree ProcessEntry place)
 
 -- step 7: the process tree, and its leaf's right
-abbrev pub process_walk : Scope → ℕ → ℕ → ℕ → Table → Program Leaf
-process_walk scope offset = walk (λ d place. guest_word scope ProcessTree place) Process ProcessTree 0 offset
+abbrev pub process_walk : Option Table → ℕ → ℕ → ℕ → Table → Program Leaf
+process_walk under offset = walk (λ d place. guest_word under ProcessTree place) Process ProcessTree 0 offset
 
-unfoldable pub process_leaf : Scope → Bool → Kind → ℕ → ℕ → Program Leaf
-process_leaf scope problem k offset descriptor =
+unfoldable pub process_leaf : Option Table → Bool → Kind → ℕ → ℕ → Program Leaf
+process_leaf under problem k offset descriptor =
     bind (check (site_of ProcessTree 0 0) Process (process_tree descriptor offset)) (λ t.
-    bind (process_walk scope offset 4 0 t) (λ l.
+    bind (process_walk under offset 4 0 t) (λ l.
     bind (check (site_of ProcessTree l.depth 0) Process (process_right problem k l.word)) (λ _.
     ret l)))
 
+-- a leaf that was guest-reached: the leaf that led there settled for a store, and then its bits added
+abbrev pub settle_reached : Kind → Reached → Program (Unit {0})
+settle_reached k g = bind (settle Store g.leaf) (λ _. amend k g.real)
+
 -- step 9: the process leaf, where its bits do not stand, is guest-reached for a store, that leaf settled, then it
-unfoldable pub settle_process : Scope → Kind → Leaf → Program (Unit {0})
-settle_process scope k l =
+-- (`cond`, since `if` does not choose between programs, which are in Type 1)
+unfoldable pub settle_process : Option Table → Kind → Leaf → Program (Unit {0})
+settle_process under k l =
     cond (is_settled k l.word) (ret tt)
-    (bind (guest_reach scope Settling Store l.place) (λ g.
-    bind (settle Store g.leaf) (λ _.
-    amend k g.real)))
+    (bind (guest_reach under Settling Store l.place) (λ g. settle_reached k g))
 
 -- ---- the datum
 abbrev pub kind_of : Ask → Kind
@@ -115,7 +118,7 @@ real_access ask w offset a = bind (reach (site_of Datum 0 0) a) (λ _. use_datum
 unfoldable pub guest_access : Kind → ℕ → Ask → ℕ → ℕ → ℕ → Program (ℕ × ℕ × ℕ)
 guest_access k lpid ask w offset a =
     bind (partition_entry lpid) (λ e.
-    bind (guest_reach e.scope Datum k a) (λ g.
+    bind (guest_reach e.tree Datum k a) (λ g.
     bind (settle k g.leaf) (λ _.
     use_datum ask w offset g.real)))
 
@@ -124,9 +127,9 @@ unfoldable pub process_access : Kind → ℕ → ℕ → Bool → Ask → ℕ �
 process_access k lpid pid problem ask w offset o =
     bind (partition_entry lpid) (λ e.
     bind (process_entry e pid) (λ d.
-    bind (process_leaf e.scope problem k o d) (λ l.
-    bind (guest_reach e.scope Datum k l.address) (λ g.
-    bind (settle_process e.scope k l) (λ _.
+    bind (process_leaf e.tree problem k o d) (λ l.
+    bind (guest_reach e.tree Datum k l.address) (λ g.
+    bind (settle_process e.tree k l) (λ _.
     bind (settle k g.leaf) (λ _.
     use_datum ask w offset g.real))))))
 

@@ -1,8 +1,10 @@
+pub mod Values
 pub mod Fields
 pub mod Fault
 pub mod Tables
 pub mod Widths
 pub mod Program
+pub mod Underway
 pub mod Route
 pub mod Request
 pub mod Access

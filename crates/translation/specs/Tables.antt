@@ -1,24 +1,21 @@
 -- What descriptors and entries say. Assumes nothing.
-use Rattle.std.specs.Prelude.{ℕ, ◌+◌, ◌-◌, ◌*◌, ◌/◌, ◌%◌, ◌^◌, ◌<◌, ◌≤◌, Bool, cond, not, ◌&&◌, ◌||◌, Ok, Err, Result, ◌==◌, nat_le, nat_lt}
+use Rattle.std.specs.Prelude.{ℕ, ◌+◌, ◌-◌, ◌*◌, ◌/◌, ◌%◌, ◌^◌, Bool, if◌then◌else◌, not, ◌&&◌, ◌||◌, Some, None, Ok, Err, Result, ◌==◌, nat_le, nat_lt}
 use Rattle.translation.specs.declared.fault.Kind.{Kind}
 use Rattle.translation.specs.declared.fault.Kind.TheVariants.{Load, Store, Fetch}
 use Rattle.translation.specs.declared.fault.Cause.{Cause}
 use Rattle.translation.specs.declared.fault.Cause.TheVariants.{Segment, Index, Unsupported, Invalid, Right, SettlingRight}
-use Rattle.translation.specs.declared.fault.Fault.{Fault}
 use Rattle.translation.specs.declared.fault.Purpose.{Purpose}
 use Rattle.translation.specs.declared.fault.Purpose.TheVariants.{Datum, PartitionEntry, ProcessEntry, ProcessTree, Settling}
 use Rattle.translation.specs.declared.tables.Table.{Table}
 use Rattle.translation.specs.declared.tables.Leaf.{Leaf}
 use Rattle.translation.specs.declared.tables.Step.{Step}
 use Rattle.translation.specs.declared.tables.Step.TheVariants.{Next, Found}
-use Rattle.translation.specs.declared.tables.Scope.{Scope}
-use Rattle.translation.specs.declared.tables.Scope.TheVariants.{Real, Guest}
 use Rattle.translation.specs.declared.tables.Partition.{Partition}
 use Rattle.translation.specs.Fields.{table_base, table_size, next_base, next_width, tree_size, valid, leaf, page_base, referenced, changed, privileged, may_read, may_write, may_execute}
 
 -- a flaw stops with its cause; without it the rest follows
 abbrev pub unless : {B : Type 0} → Bool → Cause → Result B Cause → Result B Cause
-unless flaw c r = cond flaw (Err c) r
+unless flaw c r = if flaw then Err c else r
 
 -- a table is not supported if its width is not 5 to 16, it leaves fewer than 12 bits, or its base is no multiple of its size
 abbrev pub flawed_table : ℕ → ℕ → ℕ → Bool
@@ -52,7 +49,7 @@ found (Err c) = Err c
 
 -- in an entry V comes first, then the unsupported forms
 unfoldable pub step_of : ℕ → ℕ → ℕ → ℕ → ℕ → Result Step Cause
-step_of left addr place depth v = unless (not (valid v)) Invalid (cond (leaf v) (found (leaf_of left addr place depth v)) (next (table_of v left)))
+step_of left addr place depth v = unless (not (valid v)) Invalid (if leaf v then found (leaf_of left addr place depth v) else next (table_of v left))
 
 -- a table takes its index from the bits above those left, and its entries have eight bytes
 unfoldable pub place_of : Table → ℕ → ℕ
@@ -67,17 +64,17 @@ abbrev pub translates : Table → ℕ → Bool
 translates t addr = addr / 2 ^ (t.left + t.width) == 0
 
 abbrev pub inside_of : Table → ℕ → Cause → Result (Unit {0}) Cause
-inside_of t addr otherwise = cond (translates t addr) (Ok tt) (Err otherwise)
+inside_of t addr otherwise = if translates t addr then Ok tt else Err otherwise
 
 abbrev pub under : ℕ → Result Table Cause → Result Partition Cause
-under second (Ok t) = Ok (record { scope = Guest t; process_table = second })
+under second (Ok t) = Ok (record { tree = Some t; process_table = second })
 under second (Err c) = Err c
 
 -- HR and GR, bit 0 of each doubleword, are 1; for a nonzero LPID the first names the partition's tree
 unfoldable pub partition_of : ℕ → ℕ → ℕ → Result Partition Cause
 partition_of lpid first second =
     unless (not (valid first)) Unsupported (unless (not (valid second)) Unsupported
-    (cond (lpid == 0) (Ok (record { scope = Real; process_table = second })) (under second (tree_of first))))
+    (if lpid == 0 then Ok (record { tree = None; process_table = second }) else under second (tree_of first)))
 
 -- a process table is not supported if its size field is above 24 or its base is no multiple of its size
 abbrev pub flawed_process_table : ℕ → ℕ → Bool
@@ -94,7 +91,7 @@ process_place table pid =
     (unless (outside (table_size table) pid) Index (Ok (table_base table + 16 * pid)))
 
 abbrev pub with_offset : Result Table Cause → ℕ → Result Table Cause
-with_offset (Ok t) offset = cond (translates t offset) (Ok t) (Err Segment)
+with_offset (Ok t) offset = if translates t offset then Ok t else Err Segment
 with_offset (Err c) offset = Err c
 
 -- the process descriptor first, then the offset
@@ -116,11 +113,11 @@ missing Settling = SettlingRight
 
 -- a partition leaf's right; its privileged bit has no effect
 unfoldable pub right_of : Purpose → Kind → ℕ → Result (Unit {0}) Cause
-right_of p k v = cond (allows k v) (Ok tt) (Err (missing p))
+right_of p k v = if allows k v then Ok tt else Err (missing p)
 
 -- a process leaf's right; its privileged bit excludes problem state
 unfoldable pub process_right : Bool → Kind → ℕ → Result (Unit {0}) Cause
-process_right problem k v = unless (problem && privileged v) Right (cond (allows k v) (Ok tt) (Err Right))
+process_right problem k v = unless (problem && privileged v) Right (if allows k v then Ok tt else Err Right)
 
 -- R, and C for a store
 abbrev pub settling_bits : Kind → ℕ
@@ -133,30 +130,3 @@ abbrev pub is_settled : Kind → ℕ → Bool
 is_settled Load v = referenced v
 is_settled Store v = referenced v && changed v
 is_settled Fetch v = referenced v
-
--- a table from which a walk can go on
-pub record Good (t : Table) : Type 0 where
-  pub base : t.base < 2 ^ 60
-  pub width : t.width ≤ 16
-  pub both : t.left + t.width ≤ 52
-
-abbrev pub GoodTable : Result Table Cause → Type 0
-GoodTable (Ok t) = Good t
-GoodTable (Err c) = Unit {0}
-
-abbrev pub GoodStep : Result Step Cause → Type 0
-GoodStep (Ok (Next t)) = Good t
-GoodStep (Ok (Found l)) = Unit {0}
-GoodStep (Err c) = Unit {0}
-
-abbrev pub GoodScope : Scope → Type 0
-GoodScope Real = Unit {0}
-GoodScope (Guest t) = Good t
-
-abbrev pub GoodPartition : Result Partition Cause → Type 0
-GoodPartition (Ok p) = GoodScope p.scope
-GoodPartition (Err c) = Unit {0}
-
-abbrev pub GoodFound : Result Partition Fault → Type 0
-GoodFound (Ok p) = GoodScope p.scope
-GoodFound (Err c) = Unit {0}

@@ -1,13 +1,12 @@
 //! The datum: read or written where it was reached.
-ghost use Rattle.std.specs.Prelude.{◌≡◌, ◌+◌, ◌*◌, ◌%◌, ◌^◌, ◌<◌, ◌≤◌, Ok};
-ghost use Rattle.translation.specs.Program.{state, Performs};
-ghost use Rattle.translation.specs.Widths.{bytes_of};
-ghost use Rattle.translation.specs.Access.{kind_of, use_datum as using_datum};
-ghost use Rattle.translation.specs.Request.{Askable};
+ghost use Rattle.std.specs.Prelude.{◌≡◌, ◌+◌, ◌-◌, ◌*◌, ◌^◌, ◌<◌, ◌≤◌, Ok};
+ghost use Rattle.translation.specs.Widths.{bytes_of, above as bits_above, part as part_of, merged as merged_of};
+ghost use Rattle.translation.specs.Request.{stored_value};
+ghost use Rattle.translation.specs.Underway.{Performs};
 
-use crate::fault::{Kind, Setting};
-use crate::reach::{put_word, reached_word};
-use crate::widths::{Width, merged, part};
+use crate::fault::Kind;
+use crate::reach::Access;
+use crate::widths::Width;
 use memory::protected::ProtectedMemory;
 
 /// What is asked of the datum.
@@ -19,6 +18,8 @@ pub enum Ask {
 }
 
 impl Ask {
+    ghost use Rattle.translation.specs.Access.{kind_of};
+
     pub fn kind(self) -> Kind
         ensures { result ≡ kind_of self }
     {
@@ -30,26 +31,63 @@ impl Ask {
     }
 }
 
-/// The datum's value (0 for a store), its real address and the count.
-pub fn use_datum<M: ProtectedMemory>(
-    setting: &Setting,
-    memory: &mut M,
-    count: u64,
-    ask: Ask,
-    width: Width,
-    addr: u64,
-) -> (u64, u64, u64)
-    requires { Askable setting.now ask width }
-    ensures performs { Performs setting.now (state (M.meaning memory.old) count) (using_datum ask (bytes_of width) (setting.now.ea % 8) addr) (Ok result) (state (M.meaning memory.new) count) }
-    ensures keeps { M.keeps memory.old memory.new }
-{
-    let offset = setting.ea % 8;
-    let word = reached_word(setting, memory, addr);
-    match ask {
-        Ask::ToStore(value) => {
-            put_word(setting, memory, addr, merged(width, offset, word, value));
-            (0, addr, count)
+/// A datum: what is asked of it, how wide it is, and at which offset of its doubleword it lies.
+#[derive(Clone, Copy)]
+pub struct Datum {
+    pub ask: Ask,
+    pub width: Width,
+    pub offset: u64,
+    ghost inside: { bytes_of width + offset ≤ 8 },
+    ghost fits: { stored_value ask < 2 ^ (8 * bytes_of width) },
+}
+
+impl Datum {
+    // How far above its doubleword's last byte it ends, in bits.
+    fn above(&self) -> u64
+        ensures { result ≡ bits_above (bytes_of self.now.width) self.now.offset }
+    {
+        8 * (8 - u64::from(self.width) - self.offset)
+    }
+
+    // It, in a doubleword.
+    #[tactic(auto, using(crate::proofs::Parts::parts))]
+    fn part(&self, v: u64) -> u64
+        ensures { result ≡ part_of (bytes_of self.now.width) self.now.offset v }
+    {
+        match self.width {
+            Width::Doubleword => v,
+            _ => (v >> self.above()) % (1 << (8 * u64::from(self.width))),
         }
-        _ => (part(width, offset, word), addr, count),
+    }
+
+    // The doubleword with another value in its place.
+    #[tactic(auto, using(crate::proofs::Parts::merges))]
+    fn merged(&self, v: u64, x: u64) -> u64
+        requires { x < 2 ^ (8 * bytes_of self.now.width) }
+        ensures { result ≡ merged_of (bytes_of self.now.width) self.now.offset v x }
+    {
+        let shift = self.above();
+        v - self.part(v) * (1 << shift) + x * (1 << shift)
+    }
+}
+
+impl<M: ProtectedMemory> Access<'_, M> {
+    ghost use Rattle.translation.specs.Access.{use_datum as using_datum};
+
+    /// The datum's value (0 for a store), its real address and the count.
+    #[tactic(auto, unfolding(crate::specs::Access::use_datum))]
+    pub fn use_datum(&mut self, datum: &Datum, addr: u64) -> (u64, u64, u64)
+        ensures performs { Performs M.meaning M.keeps self.old (using_datum datum.now.ask (bytes_of datum.now.width) datum.now.offset addr) (Ok result) self.new }
+        ensures count { self.new.count ≡ self.old.count }
+    {
+        let word = self.reached_word(addr);
+        let value = match datum.ask {
+            Ask::ToStore(value) => {
+                self.put_word(addr, datum.merged(word, value));
+                0
+            }
+            _ => datum.part(word),
+        };
+        (value, addr, self.count)
     }
 }

@@ -1,7 +1,10 @@
 //! The fault record: why, where and for what an access stopped.
-ghost use Rattle.std.specs.Prelude.{◌≡◌};
+ghost use Rattle.std.specs.Prelude.{◌≡◌, Some, if◌then◌else◌};
 ghost use Rattle.translation.specs.Access.{site_of};
-ghost use Rattle.translation.specs.Fault.{cause_number, layer_number, purpose_number, is_fetch, is_store, own_vector, partition_vector, storage_vector, segment_vector, vector_of, fault_at, faulted};
+ghost use Rattle.translation.specs.Fault.{cause_number, layer_number, purpose_number, cause_text, layer_text, purpose_text, is_fetch, own_vector, partition_vector, storage_vector, segment_vector, vector_of, fault_at};
+
+use std::fmt;
+use std::marker::Model;
 
 /// What an access asks of its datum.
 #[derive(Debug, Clone, Copy, PartialEq, Eq)]
@@ -12,21 +15,13 @@ pub enum Kind {
 }
 
 impl Kind {
-    pub(crate) fn is_fetch(self) -> bool
-        ensures { result ≡ is_fetch self }
+    // The vector of a fetch's interrupt, or that of data.
+    fn vector(self, fetch: u64, other: u64) -> u64
+        ensures { result ≡ (if is_fetch self then fetch else other) }
     {
         match self {
-            Kind::Fetch => true,
-            _ => false,
-        }
-    }
-
-    pub(crate) fn is_store(self) -> bool
-        ensures { result ≡ is_store self }
-    {
-        match self {
-            Kind::Store => true,
-            _ => false,
+            Kind::Fetch => fetch,
+            _ => other,
         }
     }
 }
@@ -35,88 +30,113 @@ impl Kind {
 #[derive(Debug, Clone, Copy, PartialEq, Eq)]
 pub enum Cause {
     /// No segment: the effective address names no process tree, or lies beyond its process tree.
-    Segment,
+    Segment = 1,
     /// An index outside a table.
-    Index,
+    Index = 2,
     /// A form that is not supported.
-    Unsupported,
+    Unsupported = 3,
     /// An entry that is not valid, or a guest address outside its partition's tree.
-    Invalid,
+    Invalid = 4,
     /// A right is missing.
-    Right,
+    Right = 5,
     /// A right is missing where the process leaf's reference and change bits are to be set.
-    SettlingRight,
+    SettlingRight = 6,
     /// A secure frame.
-    Secure,
+    Secure = 7,
     /// An address beyond the memory.
-    Beyond,
+    Beyond = 8,
 }
 
-impl Cause {
-    /// The cause's number, 1 to 8.
-    pub fn number(self) -> u64
-        ensures { result ≡ cause_number self }
-    {
-        match self {
-            Cause::Segment => 1,
-            Cause::Index => 2,
-            Cause::Unsupported => 3,
-            Cause::Invalid => 4,
-            Cause::Right => 5,
-            Cause::SettlingRight => 6,
-            Cause::Secure => 7,
-            Cause::Beyond => 8,
-        }
+/// The cause's number, 1 to 8.
+impl From<Cause> for u64 {
+    ghost from_gives = { λ c n. n ≡ cause_number c };
+
+    fn from(cause: Cause) -> u64 {
+        cause as u64
+    }
+}
+
+impl fmt::Display for Cause {
+    ghost output = { λ c. Some (cause_text c) };
+
+    fn fmt<W: fmt::Write>(&self, f: &mut fmt::Formatter<W>) -> fmt::Result {
+        f.write_str(match self {
+            Cause::Segment => "no segment",
+            Cause::Index => "an index outside its table",
+            Cause::Unsupported => "an unsupported form",
+            Cause::Invalid => "no valid entry",
+            Cause::Right => "a missing right",
+            Cause::SettlingRight => "a missing right to settle the process leaf",
+            Cause::Secure => "a secure frame",
+            Cause::Beyond => "an address beyond the memory",
+        })
     }
 }
 
 /// Which tables, or the storage itself, stopped an access.
 #[derive(Debug, Clone, Copy, PartialEq, Eq)]
 pub enum Layer {
-    Process,
-    Partition,
-    Storage,
+    Process = 1,
+    Partition = 2,
+    Storage = 3,
 }
 
-impl Layer {
-    /// The layer's number, 1 to 3.
-    pub fn number(self) -> u64
-        ensures { result ≡ layer_number self }
-    {
-        match self {
-            Layer::Process => 1,
-            Layer::Partition => 2,
-            Layer::Storage => 3,
-        }
+/// The layer's number, 1 to 3.
+impl From<Layer> for u64 {
+    ghost from_gives = { λ l n. n ≡ layer_number l };
+
+    fn from(layer: Layer) -> u64 {
+        layer as u64
+    }
+}
+
+impl fmt::Display for Layer {
+    ghost output = { λ l. Some (layer_text l) };
+
+    fn fmt<W: fmt::Write>(&self, f: &mut fmt::Formatter<W>) -> fmt::Result {
+        f.write_str(match self {
+            Layer::Process => "in the process's tables",
+            Layer::Partition => "in the partition's tables",
+            Layer::Storage => "at the storage itself",
+        })
     }
 }
 
 /// What was being looked for.
 #[derive(Debug, Clone, Copy, PartialEq, Eq)]
 pub enum Purpose {
-    Datum,
-    PartitionEntry,
-    ProcessEntry,
-    ProcessTree,
-    Settling,
+    Datum = 0,
+    PartitionEntry = 1,
+    ProcessEntry = 2,
+    ProcessTree = 3,
+    Settling = 4,
 }
 
-impl Purpose {
-    /// The purpose's number, 0 to 4.
-    pub fn number(self) -> u64
-        ensures { result ≡ purpose_number self }
-    {
-        match self {
-            Purpose::Datum => 0,
-            Purpose::PartitionEntry => 1,
-            Purpose::ProcessEntry => 2,
-            Purpose::ProcessTree => 3,
-            Purpose::Settling => 4,
-        }
+/// The purpose's number, 0 to 4.
+impl From<Purpose> for u64 {
+    ghost from_gives = { λ p n. n ≡ purpose_number p };
+
+    fn from(purpose: Purpose) -> u64 {
+        purpose as u64
+    }
+}
+
+impl fmt::Display for Purpose {
+    ghost output = { λ p. Some (purpose_text p) };
+
+    fn fmt<W: fmt::Write>(&self, f: &mut fmt::Formatter<W>) -> fmt::Result {
+        f.write_str(match self {
+            Purpose::Datum => "the datum",
+            Purpose::PartitionEntry => "the partition's entry",
+            Purpose::ProcessEntry => "the process's entry",
+            Purpose::ProcessTree => "an entry of the process's tree",
+            Purpose::Settling => "the process leaf, to settle it",
+        })
     }
 }
 
 /// Why, where and for what an access stopped.
+// Its addresses are numbers, with 0 for none, and no `Option`: so the rules define the record that a fault leaves.
 #[derive(Debug, Clone, Copy, PartialEq, Eq)]
 pub struct Fault {
     pub cause: Cause,
@@ -154,7 +174,19 @@ pub struct Setting {
     pub kind: Kind,
 }
 
-/// What a fault that arises here repeats.
+impl Model for Setting {
+    ghost use Rattle.translation.specs.Values.{SettingValue, IsNamed};
+
+    ghost Value = { SettingValue };
+
+    ghost view = { λ s. record { confined = s.confined; table = s.table; entries = s.entries; lpid = s.lpid; ea = s.ea; kind = s.kind } };
+
+    ghost invariant = { λ s. IsNamed s.table s.entries };
+
+    ghost inverse = { λ s. record { confined = s.confined; table = s.table; entries = s.entries; lpid = s.lpid; ea = s.ea; kind = s.kind } };
+}
+
+/// What a fault that arises here repeats; its guest address is 0 where none is being translated, as in the record.
 #[derive(Clone, Copy)]
 pub struct Site {
     pub purpose: Purpose,
@@ -180,7 +212,7 @@ impl Setting {
     fn own_vector(&self) -> u64
         ensures { result ≡ own_vector self.now.kind }
     {
-        if self.kind.is_fetch() { 0x400 } else { 0x300 }
+        self.kind.vector(0x400, 0x300)
     }
 
     // The hypervisor's, for a nonzero LPID.
@@ -190,7 +222,7 @@ impl Setting {
         if self.lpid == 0 {
             return self.own_vector();
         }
-        if self.kind.is_fetch() { 0xE20 } else { 0xE00 }
+        self.kind.vector(0xE20, 0xE00)
     }
 
     // The storage interrupt that a layer gives.
@@ -207,7 +239,7 @@ impl Setting {
     fn segment_vector(&self) -> u64
         ensures { result ≡ segment_vector self.now.kind }
     {
-        if self.kind.is_fetch() { 0x480 } else { 0x380 }
+        self.kind.vector(0x480, 0x380)
     }
 
     fn vector(&self, layer: Layer, cause: Cause) -> u64
@@ -221,6 +253,7 @@ impl Setting {
     }
 
     /// The fault that arises at a site.
+    #[tactic(auto, unfolding(crate::specs::Fault::fault_at))]
     pub(crate) fn fault(
         &self,
         site: Site,
@@ -240,24 +273,8 @@ impl Setting {
             guest: site.guest,
             real,
             vector: self.vector(layer, cause),
-            store: self.kind.is_store(),
+            store: matches!(self.kind, Kind::Store),
             count,
-        }
-    }
-
-    /// A check's answer, with its cause made a fault of this site.
-    pub(crate) fn check<A>(
-        &self,
-        site: Site,
-        layer: Layer,
-        count: u64,
-        answer: Result<A, Cause>,
-    ) -> Result<A, Fault>
-        ensures { result ≡ faulted self.now site layer count answer }
-    {
-        match answer {
-            Ok(a) => Ok(a),
-            Err(cause) => Err(self.fault(site, layer, cause, 0, count)),
         }
     }
 }

@@ -4,11 +4,13 @@
 pub mod access;
 mod datum;
 pub mod fault;
-mod fields;
+mod fault_text;
+pub mod fields;
 pub mod operand;
 mod partition;
 mod process;
 mod reach;
 pub mod registers;
 mod tables;
+mod walk;
 pub mod widths;

@@ -1,5 +1,6 @@
 //! What an access is asked on: an address and a width that go together, and for a store a value that fits.
-ghost use Rattle.std.specs.Prelude.{◌≡◌, ◌+◌, ◌*◌, ◌%◌, ◌^◌, ◌<◌, ◌≤◌, Ok, Err, MatchResult};
+ghost use Rattle.std.specs.Prelude.{◌≡◌, ◌==◌, if◌then◌else◌, ◌+◌, ◌*◌, ◌%◌, ◌^◌, ◌<◌, ◌≤◌, Ok, Err, MatchResult};
+ghost use Rattle.translation.specs.declared.widths.Unaskable.TheVariants.{Misaligned};
 ghost use Rattle.translation.specs.Widths.{bytes_of, asked, fitting, fetched};
 
 use crate::widths::{Unaskable, Width};
@@ -16,12 +17,9 @@ pub struct Operand {
 /// An operand, and a value that fits its width.
 #[derive(Debug, Clone, Copy)]
 pub struct Stored {
-    pub address: u64,
-    pub width: Width,
+    pub operand: Operand,
     pub value: u64,
-    ghost aligned: { address % bytes_of width ≡ 0 },
-    ghost inside: { bytes_of width + address % 8 ≤ 8 },
-    ghost fits: { value < 2 ^ (8 * bytes_of width) },
+    ghost fits: { value < 2 ^ (8 * bytes_of operand.width) },
 }
 
 /// An instruction's address, a multiple of 4.
@@ -31,31 +29,36 @@ pub struct Instruction {
     ghost aligned: { address % 4 ≡ 0 },
 }
 
+// Base plus index modulo 2^64, a multiple of the width.
+fn aligned(base: u64, index: u64, width: Width) -> Result<u64, Unaskable>
+    ensures { result ≡ (if (base + index) % 2 ^ 64 % bytes_of width == 0 then Ok ((base + index) % 2 ^ 64) else Err Misaligned) }
+{
+    let address = base.wrapping_add(index);
+    if address % u64::from(width) != 0 {
+        return Err(Unaskable::Misaligned);
+    }
+    Ok(address)
+}
+
 impl Operand {
     /// The operand of a load: base plus index modulo 2^64, with a width of 1, 2, 4 or 8 of which it is a multiple.
     pub fn new(width: u64, base: u64, index: u64) -> Result<Operand, Unaskable>
         ensures { MatchResult result (λ o. Ok (o.address, o.width) ≡ asked width base index) (λ e. Err e ≡ asked width base index) }
     {
-        let width = Width::new(width)?;
-        let address = base.wrapping_add(index);
-        if address % width.bytes() != 0 {
-            return Err(Unaskable::Misaligned);
-        }
+        let width = Width::try_from(width)?;
+        let address = aligned(base, index, width)?;
         Ok(Operand { address, width })
     }
 
     /// The operand of a store, with a value that fits its width.
     pub fn with_value(&self, value: u64) -> Result<Stored, Unaskable>
-        ensures { MatchResult result (λ o. Ok (o.address, o.width, o.value) ≡ fitting self.now.address self.now.width value) (λ e. Err e ≡ fitting self.now.address self.now.width value) }
+        ensures { MatchResult result (λ o. Ok (o.operand.address, o.operand.width, o.value) ≡ fitting self.now.address self.now.width value) (λ e. Err e ≡ fitting self.now.address self.now.width value) }
     {
-        let address = self.address;
-        let width = self.width;
-        if !width.fits(value) {
+        if !self.width.fits(value) {
             return Err(Unaskable::TooWide);
         }
         Ok(Stored {
-            address,
-            width,
+            operand: *self,
             value,
         })
     }
@@ -66,10 +69,7 @@ impl Instruction {
     pub fn new(base: u64, index: u64) -> Result<Instruction, Unaskable>
         ensures { MatchResult result (λ o. Ok o.address ≡ fetched base index) (λ e. Err e ≡ fetched base index) }
     {
-        let address = base.wrapping_add(index);
-        if address % 4 != 0 {
-            return Err(Unaskable::Misaligned);
-        }
+        let address = aligned(base, index, Width::Word)?;
         Ok(Instruction { address })
     }
 }

@@ -1,10 +1,10 @@
 //! What a machine and a thread bring to an access, and which tables an effective address goes through.
 ghost use Rattle.std.specs.Prelude.{◌≡◌, ◌^◌, ◌<◌};
-ghost use Rattle.translation.specs.Program.{GoodSetting};
-ghost use Rattle.translation.specs.Route.{effective, relocated, real_offset, real_address, own_quadrant, hypervisor_quadrant, route_of, lpid_of, confined, table_entries, setting_of};
+ghost use Rattle.translation.specs.declared.registers.Route.TheVariants.{AtProcess};
+ghost use Rattle.translation.specs.Route.{effective, relocated, real_address, own_quadrant, hypervisor_quadrant, route_of, lpid_of, confined, table_entries, setting_of};
 
 use crate::fault::{Kind, Setting};
-use crate::fields::{table_base, table_size};
+use crate::fields::{bit, bits, page_base, table_base, table_size};
 
 /// The registers that all threads share.
 #[derive(Debug, Clone, Copy, PartialEq, Eq)]
@@ -44,11 +44,30 @@ pub enum Route {
     /// None: the address is in no segment.
     NoSegment,
     /// None: a real address.
-    AtReal(u64),
-    /// A partition's tree alone: its LPID, and a guest real address.
-    AtGuest(u64, u64),
-    /// A process's tree under a partition's: LPID, PID, and the offset in the process's tree.
-    AtProcess(u64, u64, u64),
+    AtReal { address: u64 },
+    /// A partition's tree alone, on a guest real address.
+    AtGuest { lpid: u64, address: u64 },
+    /// A process's tree under a partition's, on an offset.
+    AtProcess { lpid: u64, pid: u64, offset: u64 },
+}
+
+impl Route {
+    // A process's tree under a partition's, on an offset.
+    fn process(lpid: u64, pid: u64, offset: u64) -> Route
+        ensures { result ≡ AtProcess lpid pid offset }
+    {
+        Route::AtProcess { lpid, pid, offset }
+    }
+
+    /// The partition under which it runs; 0 for real addresses.
+    pub(crate) fn lpid(&self) -> u64
+        ensures { result ≡ lpid_of self.now }
+    {
+        match self {
+            Route::AtGuest { lpid, .. } | Route::AtProcess { lpid, .. } => *lpid,
+            _ => 0,
+        }
+    }
 }
 
 impl Context {
@@ -67,17 +86,20 @@ impl Context {
     fn relocated(&self, kind: Kind) -> bool
         ensures { result ≡ relocated self.now kind }
     {
-        if kind.is_fetch() { self.ir } else { self.dr }
+        match kind {
+            Kind::Fetch => self.ir,
+            _ => self.dr,
+        }
     }
 
     // The quadrants with HV = 0.
     fn own_quadrant(&self, ea: u64) -> Route
         ensures { result ≡ own_quadrant self.now ea }
     {
-        let offset = ea % (1 << 62);
-        match ea >> 62 {
-            0 => Route::AtProcess(self.lpid, self.pid, offset),
-            3 => Route::AtProcess(self.lpid, 0, offset),
+        let offset = bits::<2, 63>(ea);
+        match bits::<0, 1>(ea) {
+            0 => Route::process(self.lpid, self.pid, offset),
+            3 => Route::process(self.lpid, 0, offset),
             _ => Route::NoSegment,
         }
     }
@@ -86,21 +108,14 @@ impl Context {
     fn hypervisor_quadrant(&self, ea: u64) -> Route
         ensures { result ≡ hypervisor_quadrant self.now ea }
     {
-        let offset = ea % (1 << 62);
-        match ea >> 62 {
-            0 => Route::AtProcess(0, self.pid, offset),
-            1 => Route::AtProcess(self.lpid, self.pid, offset),
-            2 => Route::AtProcess(self.lpid, 0, offset),
-            _ => Route::AtProcess(0, 0, offset),
+        let offset = bits::<2, 63>(ea);
+        match bits::<0, 1>(ea) {
+            0 => Route::process(0, self.pid, offset),
+            1 => Route::process(self.lpid, self.pid, offset),
+            2 => Route::process(self.lpid, 0, offset),
+            _ => Route::process(0, 0, offset),
         }
     }
-}
-
-// What a real-mode offset register adds.
-fn real_offset(v: u64) -> u64
-    ensures { result ≡ real_offset v }
-{
-    (v >> 12) % (1 << 45) * (1 << 12)
 }
 
 impl Registers {
@@ -108,28 +123,28 @@ impl Registers {
     fn real_address(&self, context: &Context, ea: u64) -> u64
         ensures { result ≡ real_address self.now context.now ea }
     {
-        let address = ea % (1 << 60);
-        if ea >> 63 == 1 {
+        let address = bits::<4, 63>(ea);
+        if bit::<0>(ea) {
             return address;
         }
-        address | real_offset(if context.s { self.urmor } else { self.hrmor })
+        address | page_base(if context.s { self.urmor } else { self.hrmor })
     }
 
     /// Which tables an effective address goes through.
+    #[tactic(auto, unfolding(crate::specs::Route::route_of))]
     pub(crate) fn route(&self, context: &Context, kind: Kind, ea: u64) -> Route
         ensures { result ≡ route_of self.now context.now kind ea }
     {
-        if context.relocated(kind) {
-            return if context.hv {
-                context.hypervisor_quadrant(ea)
-            } else {
-                context.own_quadrant(ea)
-            };
-        }
-        if context.hv {
-            Route::AtReal(self.real_address(context, ea))
-        } else {
-            Route::AtGuest(context.lpid, ea % (1 << 60))
+        match (context.relocated(kind), context.hv) {
+            (true, true) => context.hypervisor_quadrant(ea),
+            (true, false) => context.own_quadrant(ea),
+            (false, true) => Route::AtReal {
+                address: self.real_address(context, ea),
+            },
+            (false, false) => Route::AtGuest {
+                lpid: context.lpid,
+                address: bits::<4, 63>(ea),
+            },
         }
     }
 
@@ -150,8 +165,7 @@ impl Registers {
 
     /// What stays the same over one access.
     pub(crate) fn setting(&self, context: &Context, kind: Kind, ea: u64, lpid: u64) -> Setting
-        ensures value { result ≡ setting_of self.now context.now kind ea lpid }
-        ensures good { GoodSetting result }
+        ensures { result ≡ setting_of self.now context.now kind ea lpid }
     {
         Setting {
             confined: self.confines(context),
@@ -160,19 +174,6 @@ impl Registers {
             lpid,
             ea,
             kind,
-        }
-    }
-}
-
-impl Route {
-    /// The partition under which it runs; 0 for real addresses.
-    pub(crate) fn lpid(&self) -> u64
-        ensures { result ≡ lpid_of self.now }
-    {
-        match self {
-            Route::AtGuest(lpid, _) => *lpid,
-            Route::AtProcess(lpid, _, _) => *lpid,
-            _ => 0,
         }
     }
 }

@@ -2,20 +2,33 @@
 ghost use Rattle.std.specs.Prelude.{◌≡◌, ◌≤◌, not, Ok};
 ghost use Rattle.translation.specs.declared.fault.Cause.TheVariants.{Invalid};
 ghost use Rattle.translation.specs.Fields.{valid as is_valid};
-ghost use Rattle.translation.specs.Tables.{unless, flawed_table, page_bits, page_address, flawed_process_table, outside as is_outside, translates as does_translate, table_of, leaf_of, step_of, place_of, tree_of, inside_of, partition_of, process_place, process_tree, allows, right_of, process_right, settling_bits, is_settled, Good, GoodTable, GoodStep, GoodScope, GoodPartition};
+ghost use Rattle.translation.specs.Tables.{unless, flawed_table, page_bits, page_address, outside as is_outside, translates as does_translate, table_of, leaf_of, step_of, place_of, tree_of, inside_of, partition_of, process_place, process_tree, allows, right_of, process_right, settling_bits, is_settled};
 
 use crate::fault::{Cause, Kind, Purpose};
 use crate::fields::{
-    changed, executable, leaf, next_base, next_width, page_base, privileged, readable, referenced,
-    table_base, table_size, tree_size, valid, writable,
+    changed, executable, leaf, misplaced, next_base, next_width, page_base, privileged, readable,
+    referenced, table_base, table_size, tree_size, valid, writable,
 };
+use std::marker::Model;
 
 /// A table of a tree. `left` bits are still to translate below its index.
 #[derive(Clone, Copy)]
 pub struct Table {
-    pub base: u64,
-    pub width: u64,
-    pub left: u64,
+    base: u64,
+    width: u64,
+    left: u64,
+}
+
+impl Model for Table {
+    ghost use Rattle.translation.specs.Values.{TableValue, IsWalkable};
+
+    ghost Value = { TableValue };
+
+    ghost view = { λ t. record { base = t.base; width = t.width; left = t.left } };
+
+    ghost invariant = { λ t. IsWalkable t.base t.width t.left };
+
+    ghost inverse = { λ t. record { base = t.base; width = t.width; left = t.left } };
 }
 
 /// A leaf that a walk found: where it stands, its doubleword, the address that it gives, and the entries read.
@@ -34,17 +47,17 @@ pub enum Step {
     Found(Leaf),
 }
 
-/// Whose addresses an access works on: real ones, or guest real ones under a partition's tree.
+/// A doubleword of a partition's entry, with its offset there.
 #[derive(Clone, Copy)]
-pub enum Scope {
-    Real,
-    Guest(Table),
+pub enum Half {
+    First = 0,
+    Second = 8,
 }
 
-/// A partition: its scope, and the doubleword that names its process table.
+/// A partition: its tree, or none for LPID 0, whose addresses are real; and the doubleword that names its process table.
 #[derive(Clone, Copy)]
 pub struct Partition {
-    pub scope: Scope,
+    pub tree: Option<Table>,
     pub process_table: u64,
 }
 
@@ -53,14 +66,14 @@ fn flawed_table(width: u64, base: u64, left: u64) -> bool
     requires { left ≤ 52 }
     ensures { result ≡ flawed_table width base left }
 {
-    width < 5 || width > 16 || left < width + 12 || base % (1 << (width + 3)) != 0
+    !(5..=16).contains(&width) || left < width + 12 || base % (1 << (width + 3)) != 0
 }
 
 /// The table that a doubleword names, where `left` bits are still to translate.
+#[tactic(auto, unfolding(crate::specs::Tables::table_of))]
 pub fn table_of(v: u64, left: u64) -> Result<Table, Cause>
     requires { left ≤ 52 }
-    ensures answer { result ≡ table_of v left }
-    ensures good { GoodTable result }
+    ensures { result ≡ table_of v left }
 {
     let width = next_width(v);
     let base = next_base(v);
@@ -78,7 +91,7 @@ pub fn table_of(v: u64, left: u64) -> Result<Table, Cause>
 fn page_bits(left: u64) -> bool
     ensures { result ≡ page_bits left }
 {
-    left == 12 || left == 16 || left == 21 || left == 30
+    matches!(left, 12 | 16 | 21 | 30)
 }
 
 // The address that a leaf gives.
@@ -91,6 +104,7 @@ fn page_address(left: u64, addr: u64, v: u64) -> u64
 }
 
 /// The leaf that a doubleword is, where `left` bits are the offset.
+#[tactic(auto, unfolding(crate::specs::Tables::leaf_of))]
 pub fn leaf_of(left: u64, addr: u64, place: u64, depth: u64, v: u64) -> Result<Leaf, Cause>
     ensures { result ≡ leaf_of left addr place depth v }
 {
@@ -115,32 +129,51 @@ fn valid_first(v: u64) -> Result<(), Cause>
     Ok(())
 }
 
-/// What an entry says: V comes first, then the unsupported forms.
-pub fn step_of(left: u64, addr: u64, place: u64, depth: u64, v: u64) -> Result<Step, Cause>
-    requires { left ≤ 52 }
-    ensures answer { result ≡ step_of left addr place depth v }
-    ensures good { GoodStep result }
-{
-    valid_first(v)?;
-    if leaf(v) {
-        Ok(Step::Found(leaf_of(left, addr, place, depth, v)?))
-    } else {
-        Ok(Step::Next(table_of(v, left)?))
+impl Table {
+    /// Where its entry for an address stands.
+    #[tactic(auto, unfolding(crate::specs::Tables::place_of))]
+    pub fn place_of(&self, addr: u64) -> u64
+        ensures { result ≡ place_of self.now addr }
+    {
+        self.base + (addr >> self.left) % (1 << self.width) * 8
+    }
+
+    /// What its entry at a place says: V comes first, then the unsupported forms.
+    #[tactic(auto, unfolding(crate::specs::Tables::step_of))]
+    pub fn step(&self, addr: u64, place: u64, depth: u64, v: u64) -> Result<Step, Cause>
+        ensures { result ≡ step_of self.now.left addr place depth v }
+    {
+        valid_first(v)?;
+        if leaf(v) {
+            Ok(Step::Found(leaf_of(self.left, addr, place, depth, v)?))
+        } else {
+            Ok(Step::Next(table_of(v, self.left)?))
+        }
+    }
+
+    // Whether it translates an address, as a root table.
+    fn translates(&self, addr: u64) -> bool
+        ensures { result ≡ does_translate self.now addr }
+    {
+        addr >> (self.left + self.width) == 0
+    }
+
+    /// Checks that it translates an address, as a root table.
+    pub fn inside(&self, addr: u64, otherwise: Cause) -> Result<(), Cause>
+        ensures { result ≡ inside_of self.now addr otherwise }
+    {
+        if self.translates(addr) {
+            Ok(())
+        } else {
+            Err(otherwise)
+        }
     }
 }
 
-/// Where a table's entry for an address stands.
-pub fn place_of(table: &Table, addr: u64) -> u64
-    requires { Good table.now }
-    ensures { result ≡ place_of table.now addr }
-{
-    table.base + (addr >> table.left) % (1 << table.width) * 8
-}
-
 /// The root table that a tree descriptor names.
+#[tactic(auto, unfolding(crate::specs::Tables::tree_of))]
 pub fn tree_of(v: u64) -> Result<Table, Cause>
-    ensures answer { result ≡ tree_of v }
-    ensures good { GoodTable result }
+    ensures { result ≡ tree_of v }
 {
     let size = tree_size(v);
     if size > 21 {
@@ -149,52 +182,23 @@ pub fn tree_of(v: u64) -> Result<Table, Cause>
     table_of(v, size + 31)
 }
 
-// Whether a root table translates an address.
-fn translates(table: &Table, addr: u64) -> bool
-    requires { Good table.now }
-    ensures { result ≡ does_translate table.now addr }
-{
-    addr >> (table.left + table.width) == 0
-}
-
-/// Checks that a root table translates an address.
-pub fn inside(table: &Table, addr: u64, otherwise: Cause) -> Result<(), Cause>
-    requires { Good table.now }
-    ensures { result ≡ inside_of table.now addr otherwise }
-{
-    if translates(table, addr) {
-        Ok(())
-    } else {
-        Err(otherwise)
-    }
-}
-
 /// What a partition's two doublewords say: HR, GR, and then for a nonzero LPID its tree.
+#[tactic(auto, unfolding(crate::specs::Tables::partition_of))]
 pub fn partition_of(lpid: u64, first: u64, second: u64) -> Result<Partition, Cause>
-    ensures answer { result ≡ partition_of lpid first second }
-    ensures good { GoodPartition result }
+    ensures { result ≡ partition_of lpid first second }
 {
     if !valid(first) || !valid(second) {
         return Err(Cause::Unsupported);
     }
-    if lpid == 0 {
-        return Ok(Partition {
-            scope: Scope::Real,
-            process_table: second,
-        });
-    }
-    let tree = tree_of(first)?;
+    let tree = if lpid == 0 {
+        None
+    } else {
+        Some(tree_of(first)?)
+    };
     Ok(Partition {
-        scope: Scope::Guest(tree),
+        tree,
         process_table: second,
     })
-}
-
-// Whether a process table is not supported.
-fn flawed_process_table(size: u64, base: u64) -> bool
-    ensures { result ≡ flawed_process_table size base }
-{
-    size > 24 || base % (1 << (size + 12)) != 0
 }
 
 // Whether an index lies outside a table of this size field.
@@ -206,12 +210,13 @@ fn outside(size: u64, index: u64) -> bool
 }
 
 /// Where a process's entry stands in the table that a doubleword names.
+#[tactic(auto, unfolding(crate::specs::Tables::process_place))]
 pub fn process_place(table: u64, pid: u64) -> Result<u64, Cause>
     ensures { result ≡ process_place table pid }
 {
     let size = table_size(table);
     let base = table_base(table);
-    if flawed_process_table(size, base) {
+    if misplaced(size, base) {
         return Err(Cause::Unsupported);
     }
     if outside(size, pid) {
@@ -221,12 +226,12 @@ pub fn process_place(table: u64, pid: u64) -> Result<u64, Cause>
 }
 
 /// The root table of a process's tree, for an offset that it translates.
+#[tactic(auto, unfolding(crate::specs::Tables::process_tree))]
 pub fn process_tree(descriptor: u64, offset: u64) -> Result<Table, Cause>
-    ensures answer { result ≡ process_tree descriptor offset }
-    ensures good { GoodTable result }
+    ensures { result ≡ process_tree descriptor offset }
 {
     let tree = tree_of(descriptor)?;
-    inside(&tree, offset, Cause::Segment)?;
+    tree.inside(offset, Cause::Segment)?;
     Ok(tree)
 }
 
@@ -264,6 +269,7 @@ impl Kind {
 }
 
 /// A partition leaf's right: its privileged bit has no effect.
+#[tactic(auto, unfolding(crate::specs::Tables::right_of))]
 pub fn right_of(purpose: Purpose, kind: Kind, v: u64) -> Result<(), Cause>
     ensures { result ≡ right_of purpose kind v }
 {
@@ -277,6 +283,7 @@ pub fn right_of(purpose: Purpose, kind: Kind, v: u64) -> Result<(), Cause>
 }
 
 /// A process leaf's right: its privileged bit excludes problem state.
+#[tactic(auto, unfolding(crate::specs::Tables::process_right))]
 pub fn process_right(problem: bool, kind: Kind, v: u64) -> Result<(), Cause>
     ensures { result ≡ process_right problem kind v }
 {

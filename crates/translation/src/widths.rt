@@ -1,45 +1,60 @@
-//! The widths of data, and what part of a doubleword a datum is.
-ghost use Rattle.std.specs.Prelude.{◌≡◌, ◌+◌, ◌-◌, ◌*◌, ◌^◌, ◌<◌, ◌≤◌};
-ghost use Rattle.translation.specs.Widths.{bytes_of, unaskable_number, width_of, fits as does_fit, above as bits_above, part as part_of, merged as merged_of};
+//! The widths of data.
+ghost use Rattle.std.specs.Prelude.{◌≡◌, Some};
+ghost use Rattle.translation.specs.Widths.{bytes_of, unaskable_number, unaskable_text, width_of, fits as does_fit};
+
+use std::error::Error;
+use std::fmt;
 
 /// How many bytes an access reads or writes.
 #[derive(Debug, Clone, Copy, PartialEq, Eq)]
 pub enum Width {
-    Byte,
-    Halfword,
-    Word,
-    Doubleword,
+    Byte = 1,
+    Halfword = 2,
+    Word = 4,
+    Doubleword = 8,
 }
 
 /// What cannot be asked of an access.
 #[derive(Debug, Clone, Copy, PartialEq, Eq)]
 pub enum Unaskable {
     /// The width is not 1, 2, 4 or 8.
-    OddWidth,
+    OddWidth = 5,
     /// The effective address is no multiple of the width.
-    Misaligned,
+    Misaligned = 6,
     /// The value does not fit the width.
-    TooWide,
+    TooWide = 7,
 }
 
-impl Unaskable {
-    /// The refusal's number: 5, 6 or 7.
-    pub fn number(self) -> u64
-        ensures { result ≡ unaskable_number self }
-    {
-        match self {
-            Unaskable::OddWidth => 5,
-            Unaskable::Misaligned => 6,
-            Unaskable::TooWide => 7,
-        }
+/// The refusal's number: 5, 6 or 7.
+impl From<Unaskable> for u64 {
+    ghost from_gives = { λ u n. n ≡ unaskable_number u };
+
+    fn from(unaskable: Unaskable) -> u64 {
+        unaskable as u64
     }
 }
 
-impl Width {
-    /// The width of a number of bytes.
-    pub(crate) fn new(bytes: u64) -> Result<Width, Unaskable>
-        ensures { result ≡ width_of bytes }
-    {
+impl fmt::Display for Unaskable {
+    ghost output = { λ u. Some (unaskable_text u) };
+
+    fn fmt<W: fmt::Write>(&self, f: &mut fmt::Formatter<W>) -> fmt::Result {
+        f.write_str(match self {
+            Unaskable::OddWidth => "the width is not 1, 2, 4 or 8",
+            Unaskable::Misaligned => "the address is no multiple of the width",
+            Unaskable::TooWide => "the value does not fit the width",
+        })
+    }
+}
+
+impl Error for Unaskable {}
+
+/// The width of a number of bytes.
+impl TryFrom<u64> for Width {
+    type Error = Unaskable;
+
+    ghost try_from_gives = { λ bytes r. r ≡ width_of bytes };
+
+    fn try_from(bytes: u64) -> Result<Width, Unaskable> {
         match bytes {
             1 => Ok(Width::Byte),
             2 => Ok(Width::Halfword),
@@ -48,7 +63,18 @@ impl Width {
             _ => Err(Unaskable::OddWidth),
         }
     }
+}
 
+/// The number of bytes.
+impl From<Width> for u64 {
+    ghost from_gives = { λ width n. n ≡ bytes_of width };
+
+    fn from(width: Width) -> u64 {
+        width as u64
+    }
+}
+
+impl Width {
     /// Whether a value fits: it is below 2^(8 × width).
     pub(crate) fn fits(self, value: u64) -> bool
         ensures { result ≡ does_fit self value }
@@ -60,45 +86,4 @@ impl Width {
             Width::Doubleword => true,
         }
     }
-
-    /// The number of bytes.
-    pub(crate) fn bytes(self) -> u64
-        ensures { result ≡ bytes_of self }
-    {
-        match self {
-            Width::Byte => 1,
-            Width::Halfword => 2,
-            Width::Word => 4,
-            Width::Doubleword => 8,
-        }
-    }
-}
-
-// How far above the doubleword's last byte a datum at an offset ends, in bits.
-fn above(bytes: u64, offset: u64) -> u64
-    requires { bytes + offset ≤ 8 }
-    ensures { result ≡ bits_above bytes offset }
-{
-    8 * (8 - bytes - offset)
-}
-
-/// The datum at an offset in a doubleword.
-pub(crate) fn part(width: Width, offset: u64, v: u64) -> u64
-    requires { bytes_of width + offset ≤ 8 }
-    ensures { result ≡ part_of (bytes_of width) offset v }
-{
-    match width {
-        Width::Doubleword => v,
-        _ => (v >> above(width.bytes(), offset)) % (1 << (8 * width.bytes())),
-    }
-}
-
-/// The doubleword with another datum there.
-pub(crate) fn merged(width: Width, offset: u64, v: u64, x: u64) -> u64
-    requires place { bytes_of width + offset ≤ 8 }
-    requires fits { x < 2 ^ (8 * bytes_of width) }
-    ensures { result ≡ merged_of (bytes_of width) offset v x }
-{
-    let shift = above(width.bytes(), offset);
-    v - part(width, offset, v) * (1 << shift) + x * (1 << shift)
 }

@@ -65,7 +65,7 @@ abbrev quiet : {A : Type 0} → Setting → State → Program A → Bool
 quiet s st (ret a) = true
 quiet s st (check site l r) = true
 quiet s st (reach site a) = true
-quiet s st (partition_word second) = true
+quiet s st (partition_word half) = true
 quiet s st (table_word site a) = true
 quiet s st (reached_word a) = true
 quiet s st (settle k l) = stands k l
@@ -98,7 +98,7 @@ quiet_kept : {A : Type 0} (s : Setting) (st : State) (p : Program A) → quiet s
 quiet_kept s st (ret a) h = refl
 quiet_kept s st (check site l r) h = refl
 quiet_kept s st (reach site a) h = refl
-quiet_kept s st (partition_word second) h = then_kept st.memory (entered s st second, st) (λ _ st. (Ok (doubleword st.memory (entry_place s second)), counted st)) (λ _ _. true) (λ a st h. refl) refl (always (entered s st second))
+quiet_kept s st (partition_word half) h = then_kept st.memory (entered s st half, st) (λ _ st. (Ok (doubleword st.memory (entry_place s half)), counted st)) (λ _ _. true) (λ a st h. refl) refl (always (entered s st half))
 quiet_kept s st (table_word site a) h = then_kept st.memory (reached s st site a, st) (λ _ st. (Ok (doubleword st.memory a), counted st)) (λ _ _. true) (λ a st h. refl) refl (always (reached s st site a))
 quiet_kept s st (reached_word a) h = refl
 quiet_kept s st (settle k l) h = stands_kept s st.memory k l h

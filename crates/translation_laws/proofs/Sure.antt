@@ -17,10 +17,10 @@ use Rattle.translation.specs.declared.fault.Setting.{Setting}
 use Rattle.translation.specs.declared.fault.Site.{Site}
 use Rattle.translation.specs.declared.tables.Table.{Table}
 use Rattle.translation.specs.declared.tables.Leaf.{Leaf}
+use Rattle.translation.specs.declared.tables.Half.{Half}
+use Rattle.translation.specs.declared.tables.Half.TheVariants.{First, Second}
 use Rattle.translation.specs.declared.tables.Step.{Step}
 use Rattle.translation.specs.declared.tables.Step.TheVariants.{Next, Found}
-use Rattle.translation.specs.declared.tables.Scope.{Scope}
-use Rattle.translation.specs.declared.tables.Scope.TheVariants.{Real, Guest}
 use Rattle.translation.specs.declared.tables.Partition.{Partition as Entry}
 use Rattle.translation.specs.declared.partition.Reached.{Reached}
 use Rattle.translation.specs.declared.registers.Route.{Route}
@@ -96,8 +96,8 @@ module _ (s : Setting) (m : Meaning) where
   sure_reach : (site : Site) (a : ℕ) → Sure s m (reach site a) (λ _. Can a)
   sure_reach site a = record { same = λ x h. refl; gives = λ x h u e. can_there x site a u h e }
 
-  sure_partition_word : (b : Bool) → Sure s m (partition_word b) Any
-  sure_partition_word b = record { same = λ x h. refl; gives = λ x h v e. tt }
+  sure_partition_word : (half : Half) → Sure s m (partition_word half) Any
+  sure_partition_word half = record { same = λ x h. refl; gives = λ x h v e. tt }
 
   sure_table_word : (site : Site) (a : ℕ) → Sure s m (table_word site a) (λ _. Can a)
   sure_table_word site a = record { same = λ x h. refl; gives = λ x h v e. go x (reached s x site a) v (λ u k. can_there x site a u h k) e }
@@ -195,50 +195,50 @@ module _ (s : Setting) (m : Meaning) where
     real : Can g.real
     leaf : LeafCan g.leaf
 
-  sure_guest_reach : (scope : Scope) (p : Purpose) (k : Kind) (a : ℕ) → Sure s m (guest_reach scope p k a) Got
+  sure_guest_reach : (tree : Option Table) (p : Purpose) (k : Kind) (a : ℕ) → Sure s m (guest_reach tree p k a) Got
   unfolding guest_reach
-  sure_guest_reach Real p k a = sure_bind _ _ (λ _. Can a) _ (sure_reach _ a) λ _ c. sure_ret _ _ (record { real = c; leaf = tt })
-  sure_guest_reach (Guest t) p k a =
+  sure_guest_reach None p k a = sure_bind _ _ (λ _. Can a) _ (sure_reach _ a) λ _ c. sure_ret _ _ (record { real = c; leaf = tt })
+  sure_guest_reach (Some t) p k a =
       sure_bind _ _ Any _ (sure_check _ _ _ _ (λ _ e. tt)) λ _ _.
       sure_bind _ _ (λ l. Can l.place) _ (sure_walk Can _ _ _ _ _ (λ d place. sure_table_word _ place) 4 0 t) λ l c.
       sure_bind _ _ Any _ (sure_check _ _ _ _ (λ _ e. tt)) λ _ _.
       sure_bind _ _ (λ _. Can l.address) _ (sure_reach _ l.address) λ _ q.
       sure_ret _ _ (record { real = q; leaf = c })
 
-  sure_guest_word : (scope : Scope) (p : Purpose) (a : ℕ) → Sure s m (guest_word scope p a) Any
+  sure_guest_word : (tree : Option Table) (p : Purpose) (a : ℕ) → Sure s m (guest_word tree p a) Any
   unfolding guest_word
-  sure_guest_word scope p a =
-      sure_bind _ _ Got _ (sure_guest_reach scope p Load a) λ g q.
+  sure_guest_word tree p a =
+      sure_bind _ _ Got _ (sure_guest_reach tree p Load a) λ g q.
       sure_bind _ _ Any _ (sure_settle Load g.leaf q.leaf) λ _ _.
       sure_reached_word g.real q.real
 
   sure_partition : (lpid : ℕ) → Sure s m (partition_entry lpid) Any
   unfolding partition_entry
   sure_partition lpid =
-      sure_bind _ _ Any _ (sure_partition_word false) λ x _.
-      sure_bind _ _ Any _ (sure_partition_word true) λ y _.
+      sure_bind _ _ Any _ (sure_partition_word First) λ x _.
+      sure_bind _ _ Any _ (sure_partition_word Second) λ y _.
       sure_check _ _ _ _ (λ _ e. tt)
 
   sure_process_entry : (e : Entry) (pid : ℕ) → Sure s m (process_entry e pid) Any
   unfolding process_entry
-  sure_process_entry e pid = sure_bind _ _ Any _ (sure_check _ _ _ _ (λ _ e. tt)) λ place _. sure_guest_word e.scope _ place
+  sure_process_entry e pid = sure_bind _ _ Any _ (sure_check _ _ _ _ (λ _ e. tt)) λ place _. sure_guest_word e.tree _ place
 
-  sure_process_leaf : (scope : Scope) (problem : Bool) (k : Kind) (offset descriptor : ℕ) → Sure s m (process_leaf scope problem k offset descriptor) Any
+  sure_process_leaf : (tree : Option Table) (problem : Bool) (k : Kind) (offset descriptor : ℕ) → Sure s m (process_leaf tree problem k offset descriptor) Any
   unfolding process_leaf
-  sure_process_leaf scope problem k offset descriptor =
+  sure_process_leaf tree problem k offset descriptor =
       sure_bind _ _ Any _ (sure_check _ _ _ _ (λ _ e. tt)) λ t _.
-      sure_bind _ _ (λ l. Unit {0}) _ (sure_walk (λ _. Unit {0}) _ _ _ _ _ (λ d place. sure_guest_word scope _ place) 4 0 t) λ l _.
+      sure_bind _ _ (λ l. Unit {0}) _ (sure_walk (λ _. Unit {0}) _ _ _ _ _ (λ d place. sure_guest_word tree _ place) 4 0 t) λ l _.
       sure_bind _ _ Any _ (sure_check _ _ _ _ (λ _ e. tt)) λ _ _.
       sure_ret _ l tt
 
-  sure_settle_process : (scope : Scope) (k : Kind) (l : Leaf) → Sure s m (settle_process scope k l) Any
+  sure_settle_process : (tree : Option Table) (k : Kind) (l : Leaf) → Sure s m (settle_process tree k l) Any
   unfolding settle_process
-  sure_settle_process scope k l = go (is_settled k l.word)
+  sure_settle_process tree k l = go (is_settled k l.word)
     where
-      go : (b : Bool) → Sure s m (cond b (ret tt) (bind (guest_reach scope Settling Store l.place) (λ g. bind (settle Store g.leaf) (λ _. amend k g.real)))) Any
+      go : (b : Bool) → Sure s m (cond b (ret tt) (bind (guest_reach tree Settling Store l.place) (λ g. bind (settle Store g.leaf) (λ _. amend k g.real)))) Any
       go true = sure_ret _ tt tt
       go false =
-          sure_bind _ _ Got _ (sure_guest_reach scope Settling Store l.place) λ g q.
+          sure_bind _ _ Got _ (sure_guest_reach tree Settling Store l.place) λ g q.
           sure_bind _ _ Any _ (sure_settle Store g.leaf q.leaf) λ _ _.
           sure_amend k g.real q.real
 
@@ -257,15 +257,15 @@ module _ (s : Setting) (m : Meaning) where
   sure_access (AtReal a) k problem ask w offset = sure_bind _ _ (λ _. Can a) _ (sure_reach _ a) λ _ c. sure_use ask w offset a c
   sure_access (AtGuest l a) k problem ask w offset =
       sure_bind _ _ Any _ (sure_partition l) λ e _.
-      sure_bind _ _ Got _ (sure_guest_reach e.scope _ k a) λ g q.
+      sure_bind _ _ Got _ (sure_guest_reach e.tree _ k a) λ g q.
       sure_bind _ _ Any _ (sure_settle k g.leaf q.leaf) λ _ _.
       sure_use ask w offset g.real q.real
   sure_access (AtProcess l p o) k problem ask w offset =
       sure_bind _ _ Any _ (sure_partition l) λ e _.
       sure_bind _ _ Any _ (sure_process_entry e p) λ d _.
-      sure_bind _ _ Any _ (sure_process_leaf e.scope problem k o d) λ f _.
-      sure_bind _ _ Got _ (sure_guest_reach e.scope _ k f.address) λ g q.
-      sure_bind _ _ Any _ (sure_settle_process e.scope k f) λ _ _.
+      sure_bind _ _ Any _ (sure_process_leaf e.tree problem k o d) λ f _.
+      sure_bind _ _ Got _ (sure_guest_reach e.tree _ k f.address) λ g q.
+      sure_bind _ _ Any _ (sure_settle_process e.tree k f) λ _ _.
       sure_bind _ _ Any _ (sure_settle k g.leaf q.leaf) λ _ _.
       sure_use ask w offset g.real q.real
 

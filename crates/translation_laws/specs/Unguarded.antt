@@ -1,5 +1,5 @@
 -- An access whose questions rely on what was reached before, with no second look. Assumes nothing.
-use Rattle.std.specs.Prelude.{◌≡◌, ℕ, ◌*◌, ◌/◌, ◌%◌, cond, Some, None, Ok, Option, bit_or}
+use Rattle.std.specs.Prelude.{◌≡◌, ℕ, ◌*◌, ◌/◌, ◌%◌, if◌then◌else◌, Some, None, Ok, Option, bit_or}
 use Rattle.memory.specs.Protected.{Meaning, written}
 use Rattle.translation.specs.declared.fault.Kind.{Kind}
 use Rattle.translation.specs.declared.fault.Setting.{Setting}
@@ -19,14 +19,14 @@ plainly_amended m k place = written m (place / 8 * 8) (bit_or (doubleword m plac
 
 unfoldable pub plainly_settled : Meaning → Kind → Option Leaf → Meaning
 plainly_settled m k None = m
-plainly_settled m k (Some l) = cond (is_settled k l.word) m (plainly_amended m k l.place)
+plainly_settled m k (Some l) = if is_settled k l.word then m else plainly_amended m k l.place
 
 -- the same questions as `run` asks, where those that rely on an earlier reach look at no mark and no size
 abbrev pub run_plainly : {A : Type 0} → Setting → State → Program A → Outcome A
 run_plainly s st (ret a) = (Ok a, st)
 run_plainly s st (check site l r) = (faulted s site l st.count r, st)
 run_plainly s st (reach site a) = (reached s st site a, st)
-run_plainly s st (partition_word second) = then_do (entered s st second, st) (λ _ st. (Ok (doubleword st.memory (entry_place s second)), counted st))
+run_plainly s st (partition_word half) = then_do (entered s st half, st) (λ _ st. (Ok (doubleword st.memory (entry_place s half)), counted st))
 run_plainly s st (table_word site a) = then_do (reached s st site a, st) (λ _ st. (Ok (doubleword st.memory a), counted st))
 run_plainly s st (reached_word a) = (Ok (doubleword st.memory a), counted st)
 run_plainly s st (settle k l) = (Ok tt, state (plainly_settled st.memory k l) st.count)

@@ -1,7 +1,8 @@
 //! Four levels over four: the longest walk.
-use crate::{load_at, user};
-use memory::flat::Flat;
+use crate::frames::Frames;
+use crate::load_at;
 use memory::protected::{Declined, ProtectedMemory};
+use reference::USER;
 use std::process::Abort;
 use std::test::Fail;
 
@@ -27,7 +28,7 @@ fn lay_deep_tables<M: ProtectedMemory>(memory: &mut M) -> Result<(), Declined> {
 // The first load reads 35 doublewords, and settles four leaves; the second reads 31, and settles none.
 fn deepest<M: ProtectedMemory>(rt: &impl Abort, memory: &mut M) {
     assert_eq!(rt;
-        load_at(memory, &user(), 8, 8),
+        load_at(memory, &USER, 8, 8),
         Ok((0x1122_3344_5566_7788, 0x5008, 35))
     );
     assert_eq!(rt; memory.read(0x2320), Ok(0xC000_0000_0000_4102));
@@ -35,19 +36,15 @@ fn deepest<M: ProtectedMemory>(rt: &impl Abort, memory: &mut M) {
     assert_eq!(rt; memory.read(0x2330), Ok(0xC000_0000_0000_6182));
     assert_eq!(rt; memory.read(0x6300), Ok(0xC000_0000_0000_5102));
     assert_eq!(rt;
-        load_at(memory, &user(), 8, 8),
+        load_at(memory, &USER, 8, 8),
         Ok((0x1122_3344_5566_7788, 0x5008, 31))
     );
 }
 
 #[test]
 fn four_levels_over_four(rt: HostRuntime) -> Result<(), Fail> {
-    let mut bytes = [0u8; 32768];
-    let mut marks = [0u8; 8];
-    let mut memory = Flat {
-        bytes: &mut bytes,
-        marks: &mut marks,
-    };
+    let mut frames = Frames::new();
+    let mut memory = frames.memory();
     lay_deep_tables(&mut memory)?;
     deepest(&rt, &mut memory);
     Ok(())

@@ -1,10 +1,12 @@
 //! Leaves with 12, 16, 21 and 30 bits left, in a process's tree and in a partition's, and leaves with others.
-use crate::{Stop, lay_tables, load_at, user};
-use memory::flat::Flat;
+use crate::frames::Frames;
+use crate::{Stop, load_at};
 use memory::protected::{Declined, ProtectedMemory};
+use reference::USER;
 use std::process::Abort;
 use std::test::Fail;
 use translation::fault::{Cause, Fault, Layer, Purpose};
+use translation::registers::Context;
 
 // A tree of 35 bits whose root of width 5 is at `root`: a leaf with 30 bits left; below the next entry a table of width
 // 9, with a leaf with 21 left, a table of width 5 with a leaf with 16 left, and a table of width 9 with a leaf with 12
@@ -20,39 +22,48 @@ fn lay_leaves<M: ProtectedMemory>(memory: &mut M, root: u64) -> Result<(), Decli
     memory.write(0x3008, 0x77)
 }
 
+// Loads the word through each leaf of `lay_leaves`, with its count, and finds each leaf referenced.
+fn each_leaf<M: ProtectedMemory>(
+    rt: &impl Abort,
+    memory: &mut M,
+    context: &Context,
+    root: u64,
+    loads: [(u64, u64); 4],
+) {
+    for (address, count) in loads {
+        assert_eq!(rt;
+            load_at(memory, context, 8, address),
+            Ok((0x77, 0x3008, count))
+        );
+    }
+    for (place, leaf) in [
+        (root, 0xC000_0000_3FFF_F102),
+        (0x7000, 0xC000_0000_001F_F102),
+        (0x6100, 0xC000_0000_0000_F102),
+        (0x5008, 0xC000_0000_0000_3102),
+    ] {
+        assert_eq!(rt; memory.read(place), Ok(leaf));
+    }
+}
+
 // Each level below costs two doublewords, and the first settling one more.
 fn process_leaves<M: ProtectedMemory>(rt: &impl Abort, memory: &mut M) -> Result<(), Fail> {
     memory.write(0x4010, 0x6085)?;
     lay_leaves(memory, 0x6000)?;
-    assert_eq!(rt; load_at(memory, &user(), 8, 0x3008), Ok((0x77, 0x3008, 8)));
-    assert_eq!(rt;
-        load_at(memory, &user(), 8, 0x4000_3008),
-        Ok((0x77, 0x3008, 10))
-    );
-    assert_eq!(rt;
-        load_at(memory, &user(), 8, 0x4020_3008),
-        Ok((0x77, 0x3008, 12))
-    );
-    assert_eq!(rt;
-        load_at(memory, &user(), 8, 0x4040_1008),
-        Ok((0x77, 0x3008, 12))
-    );
-    assert_eq!(rt; memory.read(0x6000), Ok(0xC000_0000_3FFF_F102));
-    assert_eq!(rt; memory.read(0x7000), Ok(0xC000_0000_001F_F102));
-    assert_eq!(rt; memory.read(0x6100), Ok(0xC000_0000_0000_F102));
-    assert_eq!(rt; memory.read(0x5008), Ok(0xC000_0000_0000_3102));
+    let loads = [
+        (0x3008, 8),
+        (0x4000_3008, 10),
+        (0x4020_3008, 12),
+        (0x4040_1008, 12),
+    ];
+    each_leaf(rt, memory, &USER, 0x6000, loads);
     Ok(())
 }
 
 #[test]
 fn leaves_of_a_process(rt: HostRuntime) -> Result<(), Fail> {
-    let mut bytes = [0u8; 32768];
-    let mut marks = [0u8; 8];
-    let mut memory = Flat {
-        bytes: &mut bytes,
-        marks: &mut marks,
-    };
-    lay_tables(&mut memory)?;
+    let mut frames = Frames::new();
+    let mut memory = frames.with_tables()?;
     process_leaves(&rt, &mut memory)
 }
 
@@ -60,37 +71,21 @@ fn leaves_of_a_process(rt: HostRuntime) -> Result<(), Fail> {
 fn partition_leaves<M: ProtectedMemory>(rt: &impl Abort, memory: &mut M) -> Result<(), Fail> {
     memory.write(0x1010, 0x8000_0000_0000_2085)?;
     lay_leaves(memory, 0x2000)?;
-    let mut context = user();
-    context.dr = false;
-    assert_eq!(rt; load_at(memory, &context, 8, 0x3008), Ok((0x77, 0x3008, 3)));
-    assert_eq!(rt;
-        load_at(memory, &context, 8, 0x4000_3008),
-        Ok((0x77, 0x3008, 4))
-    );
-    assert_eq!(rt;
-        load_at(memory, &context, 8, 0x4020_3008),
-        Ok((0x77, 0x3008, 5))
-    );
-    assert_eq!(rt;
-        load_at(memory, &context, 8, 0x4040_1008),
-        Ok((0x77, 0x3008, 5))
-    );
-    assert_eq!(rt; memory.read(0x2000), Ok(0xC000_0000_3FFF_F102));
-    assert_eq!(rt; memory.read(0x7000), Ok(0xC000_0000_001F_F102));
-    assert_eq!(rt; memory.read(0x6100), Ok(0xC000_0000_0000_F102));
-    assert_eq!(rt; memory.read(0x5008), Ok(0xC000_0000_0000_3102));
+    let context = Context { dr: false, ..USER };
+    let loads = [
+        (0x3008, 3),
+        (0x4000_3008, 4),
+        (0x4020_3008, 5),
+        (0x4040_1008, 5),
+    ];
+    each_leaf(rt, memory, &context, 0x2000, loads);
     Ok(())
 }
 
 #[test]
 fn leaves_of_a_partition(rt: HostRuntime) -> Result<(), Fail> {
-    let mut bytes = [0u8; 32768];
-    let mut marks = [0u8; 8];
-    let mut memory = Flat {
-        bytes: &mut bytes,
-        marks: &mut marks,
-    };
-    lay_tables(&mut memory)?;
+    let mut frames = Frames::new();
+    let mut memory = frames.with_tables()?;
     partition_leaves(&rt, &mut memory)
 }
 
@@ -121,17 +116,14 @@ fn largest_tree<M: ProtectedMemory>(rt: &impl Abort, memory: &mut M) -> Result<(
     memory.write(0x7008, 0x8000_0000_0000_5009)?;
     memory.write(0x5008, 0xC000_0000_0000_3002)?;
     memory.write(0x3008, 0x77)?;
-    assert_eq!(rt; load_at(memory, &user(), 8, 0x3008), Ok((0x77, 0x3008, 10)));
+    for (address, count) in [(0x3008, 10), (0x4000_3008, 12), (0x4020_1008, 14)] {
+        assert_eq!(rt;
+            load_at(memory, &USER, 8, address),
+            Ok((0x77, 0x3008, count))
+        );
+    }
     assert_eq!(rt;
-        load_at(memory, &user(), 8, 0x4000_3008),
-        Ok((0x77, 0x3008, 12))
-    );
-    assert_eq!(rt;
-        load_at(memory, &user(), 8, 0x4020_1008),
-        Ok((0x77, 0x3008, 14))
-    );
-    assert_eq!(rt;
-        load_at(memory, &user(), 8, 0x80_0000_0000),
+        load_at(memory, &USER, 8, 0x80_0000_0000),
         Err(unsupported(0x80_0000_0000, 1, 6))
     );
     Ok(())
@@ -139,13 +131,8 @@ fn largest_tree<M: ProtectedMemory>(rt: &impl Abort, memory: &mut M) -> Result<(
 
 #[test]
 fn leaves_of_the_largest_tree(rt: HostRuntime) -> Result<(), Fail> {
-    let mut bytes = [0u8; 32768];
-    let mut marks = [0u8; 8];
-    let mut memory = Flat {
-        bytes: &mut bytes,
-        marks: &mut marks,
-    };
-    lay_tables(&mut memory)?;
+    let mut frames = Frames::new();
+    let mut memory = frames.with_tables()?;
     largest_tree(&rt, &mut memory)
 }
 
@@ -154,20 +141,15 @@ fn leaves_of_the_largest_tree(rt: HostRuntime) -> Result<(), Fail> {
 fn roots<M: ProtectedMemory>(rt: &impl Abort, memory: &mut M) -> Result<(), Fail> {
     memory.write(0, 0xC000_0000_0000_0102)?;
     memory.write(0x3008, 0x77)?;
-    memory.write(0x4010, 0x000F)?;
-    assert_eq!(rt; load_at(memory, &user(), 8, 0x3008), Ok((0x77, 0x3008, 7)));
-    memory.write(0x4010, 0x0030)?;
-    assert_eq!(rt; load_at(memory, &user(), 8, 0x3008), Ok((0x77, 0x3008, 7)));
-    memory.write(0x4010, 0x0010)?;
-    assert_eq!(rt;
-        load_at(memory, &user(), 8, 0x3008),
-        Err(unsupported(0x3008, 1, 6))
-    );
-    memory.write(0x4010, 0x0005)?;
-    assert_eq!(rt;
-        load_at(memory, &user(), 8, 0x3008),
-        Err(unsupported(0x3008, 1, 6))
-    );
+    for (tree, answer) in [
+        (0x000F, Ok((0x77, 0x3008, 7))),
+        (0x0030, Ok((0x77, 0x3008, 7))),
+        (0x0010, Err(unsupported(0x3008, 1, 6))),
+        (0x0005, Err(unsupported(0x3008, 1, 6))),
+    ] {
+        memory.write(0x4010, tree)?;
+        assert_eq!(rt; load_at(memory, &USER, 8, 0x3008), answer);
+    }
     Ok(())
 }
 
@@ -179,9 +161,9 @@ fn fourth_entry<M: ProtectedMemory>(rt: &impl Abort, memory: &mut M) -> Result<(
     memory.write(0x6200, 0x8000_0000_0000_6305)?;
     memory.write(0x6300, 0x8000_0000_0000_6405)?;
     memory.write(0x6308, 0xC000_0000_0000_0002)?;
-    assert_eq!(rt; load_at(memory, &user(), 8, 0), Err(unsupported(0, 4, 12)));
+    assert_eq!(rt; load_at(memory, &USER, 8, 0), Err(unsupported(0, 4, 12)));
     assert_eq!(rt;
-        load_at(memory, &user(), 8, 0x2_0000),
+        load_at(memory, &USER, 8, 0x2_0000),
         Err(unsupported(0x2_0000, 4, 12))
     );
     Ok(())
@@ -189,13 +171,8 @@ fn fourth_entry<M: ProtectedMemory>(rt: &impl Abort, memory: &mut M) -> Result<(
 
 #[test]
 fn leaves_at_the_root_and_fourth_entries(rt: HostRuntime) -> Result<(), Fail> {
-    let mut bytes = [0u8; 32768];
-    let mut marks = [0u8; 8];
-    let mut memory = Flat {
-        bytes: &mut bytes,
-        marks: &mut marks,
-    };
-    lay_tables(&mut memory)?;
+    let mut frames = Frames::new();
+    let mut memory = frames.with_tables()?;
     roots(&rt, &mut memory)?;
     fourth_entry(&rt, &mut memory)
 }

@@ -1,17 +1,23 @@
 //! Tests of one access, over the reference tables and deeper ones, with values worked out by hand from the rules.
 #![tactic(auto)]
 
-use memory::protected::{Declined, ProtectedMemory};
+ghost use Rattle.std.specs.Prelude.{◌≡◌};
+ghost use Rattle.translation_tests.specs.declared.Stop.TheVariants as stops;
+
+use memory::protected::ProtectedMemory;
+use reference::REGISTERS;
 use translation::access::{fetch, load, store};
 use translation::fault::Fault;
 use translation::operand::{Instruction, Operand};
-use translation::registers::{Context, Registers};
+use translation::registers::Context;
 use translation::widths::Unaskable;
 
 #[cfg(test)]
 mod deep_tests;
 #[cfg(test)]
 mod fault_tests;
+#[cfg(test)]
+mod frames;
 #[cfg(test)]
 mod leaf_tests;
 #[cfg(test)]
@@ -26,37 +32,20 @@ pub enum Stop {
     Faulted(Fault),
 }
 
-/// The registers of the reference tables.
-pub fn registers() -> Registers {
-    Registers {
-        ptcr: 0x1000,
-        hrmor: 0x3000,
-        urmor: 0,
-        facility: true,
+impl From<Unaskable> for Stop {
+    ghost from_gives = { λ e stop. stop ≡ stops.Unaskable e };
+
+    fn from(unaskable: Unaskable) -> Stop {
+        Stop::Unaskable(unaskable)
     }
 }
 
-/// A process of partition 1, in problem state.
-pub fn user() -> Context {
-    Context {
-        s: false,
-        hv: false,
-        pr: true,
-        ir: true,
-        dr: true,
-        sf: true,
-        lpid: 1,
-        pid: 1,
-    }
-}
+impl From<Fault> for Stop {
+    ghost from_gives = { λ e stop. stop ≡ stops.Faulted e };
 
-/// Writes the reference tables: a partition's tree and a process's tree of one table each.
-pub fn lay_tables<M: ProtectedMemory>(memory: &mut M) -> Result<(), Declined> {
-    memory.write(0x1010, 0x8000_0000_0000_200A)?;
-    memory.write(0x1018, 0x8000_0000_0000_4000)?;
-    memory.write(0x2000, 0xC000_0000_0000_0003)?;
-    memory.write(0x4010, 0x600A)?;
-    memory.write(0x6000, 0xC000_0000_0000_0002)
+    fn from(fault: Fault) -> Stop {
+        Stop::Faulted(fault)
+    }
 }
 
 /// A load of `width` bytes.
@@ -66,13 +55,8 @@ pub fn load_at<M: ProtectedMemory>(
     width: u64,
     address: u64,
 ) -> Result<(u64, u64, u64), Stop> {
-    match Operand::new(width, address, 0) {
-        Err(refusal) => Err(Stop::Unaskable(refusal)),
-        Ok(operand) => match load(&registers(), context, memory, &operand) {
-            Ok(answer) => Ok(answer),
-            Err(fault) => Err(Stop::Faulted(fault)),
-        },
-    }
+    let operand = Operand::new(width, address, 0)?;
+    Ok(load(&REGISTERS, context, memory, &operand)?)
 }
 
 /// A fetch.
@@ -81,13 +65,8 @@ pub fn fetch_at<M: ProtectedMemory>(
     context: &Context,
     address: u64,
 ) -> Result<(u64, u64, u64), Stop> {
-    match Instruction::new(address, 0) {
-        Err(refusal) => Err(Stop::Unaskable(refusal)),
-        Ok(instruction) => match fetch(&registers(), context, memory, &instruction) {
-            Ok(answer) => Ok(answer),
-            Err(fault) => Err(Stop::Faulted(fault)),
-        },
-    }
+    let instruction = Instruction::new(address, 0)?;
+    Ok(fetch(&REGISTERS, context, memory, &instruction)?)
 }
 
 /// A store of `width` bytes.
@@ -98,14 +77,6 @@ pub fn store_at<M: ProtectedMemory>(
     address: u64,
     value: u64,
 ) -> Result<(u64, u64), Stop> {
-    match Operand::new(width, address, 0) {
-        Err(refusal) => Err(Stop::Unaskable(refusal)),
-        Ok(operand) => match operand.with_value(value) {
-            Err(refusal) => Err(Stop::Unaskable(refusal)),
-            Ok(stored) => match store(&registers(), context, memory, &stored) {
-                Ok(answer) => Ok(answer),
-                Err(fault) => Err(Stop::Faulted(fault)),
-            },
-        },
-    }
+    let stored = Operand::new(width, address, 0)?.with_value(value)?;
+    Ok(store(&REGISTERS, context, memory, &stored)?)
 }

@@ -1,40 +1,36 @@
 //! Widths, alignment and values; narrow data; the quadrants of the effective address; SF = 0.
-use crate::{Stop, lay_tables, load_at, store_at, user};
-use memory::flat::Flat;
+use crate::frames::Frames;
+use crate::{Stop, load_at, store_at};
 use memory::protected::ProtectedMemory;
+use reference::USER;
 use std::process::Abort;
 use std::test::Fail;
 use translation::widths::Unaskable;
 
 // What cannot be asked is refused by number, and nothing happens.
 fn refusals<M: ProtectedMemory>(rt: &impl Abort, memory: &mut M) {
-    assert_eq!(rt; Unaskable::OddWidth.number(), 5);
-    assert_eq!(rt; Unaskable::Misaligned.number(), 6);
-    assert_eq!(rt; Unaskable::TooWide.number(), 7);
+    assert_eq!(rt; u64::from(Unaskable::OddWidth), 5);
+    assert_eq!(rt; u64::from(Unaskable::Misaligned), 6);
+    assert_eq!(rt; u64::from(Unaskable::TooWide), 7);
     assert_eq!(rt;
-        load_at(memory, &user(), 3, 1),
+        load_at(memory, &USER, 3, 1),
         Err(Stop::Unaskable(Unaskable::OddWidth))
     );
     assert_eq!(rt;
-        load_at(memory, &user(), 4, 2),
+        load_at(memory, &USER, 4, 2),
         Err(Stop::Unaskable(Unaskable::Misaligned))
     );
     assert_eq!(rt;
-        store_at(memory, &user(), 1, 0, 256),
+        store_at(memory, &USER, 1, 0, 256),
         Err(Stop::Unaskable(Unaskable::TooWide))
     );
-    assert_eq!(rt; store_at(memory, &user(), 8, 0, u64::MAX), Ok((0, 8)));
+    assert_eq!(rt; store_at(memory, &USER, 8, 0, u64::MAX), Ok((0, 8)));
 }
 
 #[test]
 fn what_cannot_be_asked_is_refused(rt: HostRuntime) -> Result<(), Fail> {
-    let mut bytes = [0u8; 32768];
-    let mut marks = [0u8; 8];
-    let mut memory = Flat {
-        bytes: &mut bytes,
-        marks: &mut marks,
-    };
-    lay_tables(&mut memory)?;
+    let mut frames = Frames::new();
+    let mut memory = frames.with_tables()?;
     refusals(&rt, &mut memory);
     assert_eq!(rt; memory.read(0), Ok(u64::MAX));
     Ok(())
@@ -42,25 +38,20 @@ fn what_cannot_be_asked_is_refused(rt: HostRuntime) -> Result<(), Fail> {
 
 // Narrow data in one doubleword.
 fn narrow<M: ProtectedMemory>(rt: &impl Abort, memory: &mut M) {
-    assert_eq!(rt; store_at(memory, &user(), 1, 3, 0xAB), Ok((3, 8)));
+    assert_eq!(rt; store_at(memory, &USER, 1, 3, 0xAB), Ok((3, 8)));
     assert_eq!(rt; memory.read(0), Ok(0x0000_00AB_0000_0000));
-    assert_eq!(rt; store_at(memory, &user(), 2, 6, 0xCDEF), Ok((6, 7)));
-    assert_eq!(rt; store_at(memory, &user(), 4, 4, 0x1122_3344), Ok((4, 7)));
+    assert_eq!(rt; store_at(memory, &USER, 2, 6, 0xCDEF), Ok((6, 7)));
+    assert_eq!(rt; store_at(memory, &USER, 4, 4, 0x1122_3344), Ok((4, 7)));
     assert_eq!(rt; memory.read(0), Ok(0x0000_00AB_1122_3344));
-    assert_eq!(rt; load_at(memory, &user(), 1, 3), Ok((0xAB, 3, 7)));
-    assert_eq!(rt; load_at(memory, &user(), 2, 2), Ok((0xAB, 2, 7)));
-    assert_eq!(rt; load_at(memory, &user(), 4, 4), Ok((0x1122_3344, 4, 7)));
+    assert_eq!(rt; load_at(memory, &USER, 1, 3), Ok((0xAB, 3, 7)));
+    assert_eq!(rt; load_at(memory, &USER, 2, 2), Ok((0xAB, 2, 7)));
+    assert_eq!(rt; load_at(memory, &USER, 4, 4), Ok((0x1122_3344, 4, 7)));
 }
 
 #[test]
 fn narrow_data_are_big_endian(rt: HostRuntime) -> Result<(), Fail> {
-    let mut bytes = [0u8; 32768];
-    let mut marks = [0u8; 8];
-    let mut memory = Flat {
-        bytes: &mut bytes,
-        marks: &mut marks,
-    };
-    lay_tables(&mut memory)?;
+    let mut frames = Frames::new();
+    let mut memory = frames.with_tables()?;
     narrow(&rt, &mut memory);
     Ok(())
 }
@@ -70,7 +61,7 @@ fn quadrants<M: ProtectedMemory>(rt: &impl Abort, memory: &mut M) -> Result<(), 
     memory.write(0x1000, 0x8000_0000_0000_0000)?;
     memory.write(0x1008, 0x8000_0000_0000_4000)?;
     memory.write(0x4000, 0x600A)?;
-    let mut context = user();
+    let mut context = USER;
     assert_eq!(rt;
         load_at(memory, &context, 8, 0xC000_0000_0000_0000),
         Ok((0, 0, 8))
@@ -100,12 +91,7 @@ fn quadrants<M: ProtectedMemory>(rt: &impl Abort, memory: &mut M) -> Result<(), 
 
 #[test]
 fn quadrants_choose_the_tables(rt: HostRuntime) -> Result<(), Fail> {
-    let mut bytes = [0u8; 32768];
-    let mut marks = [0u8; 8];
-    let mut memory = Flat {
-        bytes: &mut bytes,
-        marks: &mut marks,
-    };
-    lay_tables(&mut memory)?;
+    let mut frames = Frames::new();
+    let mut memory = frames.with_tables()?;
     quadrants(&rt, &mut memory)
 }

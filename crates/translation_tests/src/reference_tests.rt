@@ -1,7 +1,8 @@
 //! The reference tables: each case's answer, fault and entries after it.
-use crate::{Stop, fetch_at, lay_tables, load_at, user};
-use memory::flat::Flat;
+use crate::frames::Frames;
+use crate::{Stop, fetch_at, load_at};
 use memory::protected::{Mark, ProtectedMemory};
+use reference::{FIRST, SECURE_USER, USER};
 use std::process::Abort;
 use std::test::Fail;
 use translation::fault::{Cause, Fault, Layer, Purpose};
@@ -32,11 +33,11 @@ fn in_process(
 
 // Loads of doublewords over the reference tables, in order.
 fn cases_1_to_4<M: ProtectedMemory>(rt: &impl Abort, memory: &mut M) {
-    assert_eq!(rt; load_at(memory, &user(), 8, 0), Ok((0, 0, 8)));
+    assert_eq!(rt; load_at(memory, &USER, 8, 0), Ok((0, 0, 8)));
     assert_eq!(rt; memory.read(0x6000), Ok(0xC000_0000_0000_0102));
     assert_eq!(rt; memory.read(0x2000), Ok(0xC000_0000_0000_0183));
-    assert_eq!(rt; load_at(memory, &user(), 8, 0), Ok((0, 0, 7)));
-    assert_eq!(rt; load_at(memory, &user(), 8, 0x7FF8), Ok((0, 0x7FF8, 7)));
+    assert_eq!(rt; load_at(memory, &USER, 8, 0), Ok((0, 0, 7)));
+    assert_eq!(rt; load_at(memory, &USER, 8, 0x7FF8), Ok((0, 0x7FF8, 7)));
     let beyond = Stop::Faulted(Fault {
         cause: Cause::Beyond,
         layer: Layer::Storage,
@@ -49,9 +50,9 @@ fn cases_1_to_4<M: ProtectedMemory>(rt: &impl Abort, memory: &mut M) {
         store: false,
         count: 7,
     });
-    assert_eq!(rt; load_at(memory, &user(), 8, 0x8000), Err(beyond));
+    assert_eq!(rt; load_at(memory, &USER, 8, 0x8000), Err(beyond));
     assert_eq!(rt;
-        load_at(memory, &user(), 8, 0x7FFF_FFF8),
+        load_at(memory, &USER, 8, 0x7FFF_FFF8),
         Err(in_process(
             Cause::Invalid,
             Purpose::ProcessTree,
@@ -62,7 +63,7 @@ fn cases_1_to_4<M: ProtectedMemory>(rt: &impl Abort, memory: &mut M) {
         ))
     );
     assert_eq!(rt;
-        load_at(memory, &user(), 8, 0x8000_0000),
+        load_at(memory, &USER, 8, 0x8000_0000),
         Err(in_process(
             Cause::Segment,
             Purpose::ProcessTree,
@@ -73,7 +74,7 @@ fn cases_1_to_4<M: ProtectedMemory>(rt: &impl Abort, memory: &mut M) {
         ))
     );
     assert_eq!(rt;
-        load_at(memory, &user(), 8, 0x4000_0000_0000_0000),
+        load_at(memory, &USER, 8, 0x4000_0000_0000_0000),
         Err(in_process(
             Cause::Segment,
             Purpose::Datum,
@@ -87,28 +88,18 @@ fn cases_1_to_4<M: ProtectedMemory>(rt: &impl Abort, memory: &mut M) {
 
 #[test]
 fn loads_of_the_reference_tables(rt: HostRuntime) -> Result<(), Fail> {
-    let mut bytes = [0u8; 32768];
-    let mut marks = [0u8; 8];
-    let mut memory = Flat {
-        bytes: &mut bytes,
-        marks: &mut marks,
-    };
-    lay_tables(&mut memory)?;
+    let mut frames = Frames::new();
+    let mut memory = frames.with_tables()?;
     cases_1_to_4(&rt, &mut memory);
     Ok(())
 }
 
 #[test]
 fn a_fetch_needs_the_execute_right(rt: HostRuntime) -> Result<(), Fail> {
-    let mut bytes = [0u8; 32768];
-    let mut marks = [0u8; 8];
-    let mut memory = Flat {
-        bytes: &mut bytes,
-        marks: &mut marks,
-    };
-    lay_tables(&mut memory)?;
+    let mut frames = Frames::new();
+    let mut memory = frames.with_tables()?;
     assert_eq!(rt;
-        fetch_at(&mut memory, &user(), 0),
+        fetch_at(&mut memory, &USER, 0),
         Err(in_process(Cause::Right, Purpose::ProcessTree, 1, 0, 0x400, 6))
     );
     Ok(())
@@ -132,27 +123,22 @@ fn secure(purpose: Purpose, depth: u64, guest: u64, real: u64, count: u64) -> St
 
 #[test]
 fn a_secure_frame_stops_an_ordinary_thread(rt: HostRuntime) -> Result<(), Fail> {
-    let mut bytes = [0u8; 32768];
-    let mut marks = [0u8; 8];
-    let mut memory = Flat {
-        bytes: &mut bytes,
-        marks: &mut marks,
-    };
-    lay_tables(&mut memory)?;
+    let mut frames = Frames::new();
+    let mut memory = frames.with_tables()?;
     memory.set_mark(0, Mark::Secure)?;
     assert_eq!(rt;
-        load_at(&mut memory, &user(), 8, 0),
+        load_at(&mut memory, &USER, 8, 0),
         Err(secure(Purpose::Datum, 1, 0, 0, 7))
     );
     assert_eq!(rt; memory.read(0x6000), Ok(0xC000_0000_0000_0002));
     memory.set_mark(1, Mark::Secure)?;
     assert_eq!(rt;
-        load_at(&mut memory, &user(), 8, 0),
+        load_at(&mut memory, &USER, 8, 0),
         Err(secure(Purpose::Datum, 1, 0, 0, 7))
     );
     memory.set_mark(2, Mark::Secure)?;
     assert_eq!(rt;
-        load_at(&mut memory, &user(), 8, 0),
+        load_at(&mut memory, &USER, 8, 0),
         Err(secure(Purpose::ProcessEntry, 0, 0x4010, 0x2000, 2))
     );
     Ok(())
@@ -160,38 +146,23 @@ fn a_secure_frame_stops_an_ordinary_thread(rt: HostRuntime) -> Result<(), Fail> 
 
 #[test]
 fn a_secure_thread_goes_through(rt: HostRuntime) -> Result<(), Fail> {
-    let mut bytes = [0u8; 32768];
-    let mut marks = [1u8; 8];
-    let mut memory = Flat {
-        bytes: &mut bytes,
-        marks: &mut marks,
-    };
-    lay_tables(&mut memory)?;
-    let mut context = user();
-    context.s = true;
-    assert_eq!(rt; load_at(&mut memory, &context, 8, 0), Ok((0, 0, 8)));
+    let mut frames = Frames::new();
+    frames.marks = [1; 8];
+    let mut memory = frames.with_tables()?;
+    assert_eq!(rt; load_at(&mut memory, &SECURE_USER, 8, 0), Ok((0, 0, 8)));
     Ok(())
 }
 
 #[test]
 fn a_hypervisor_in_real_mode_is_offset(rt: HostRuntime) -> Result<(), Fail> {
-    let mut bytes = [0u8; 32768];
-    let mut marks = [0u8; 8];
-    let mut memory = Flat {
-        bytes: &mut bytes,
-        marks: &mut marks,
-    };
+    let mut frames = Frames::new();
+    let mut memory = frames.memory();
     memory.write(0x3000, 0x77)?;
     memory.write(0x1000, 0x88)?;
     let context = Context {
-        s: false,
-        hv: true,
-        pr: false,
-        ir: false,
-        dr: false,
-        sf: true,
         lpid: 1,
         pid: 1,
+        ..FIRST
     };
     assert_eq!(rt;
         load_at(&mut memory, &context, 8, 0x1000),

@@ -6,4 +6,5 @@ use Rattle.memory.proofs.zeroing.zero_frame.Given as goal
 abbrev pub invariant-loop-i : goal.invariant-loop-i
 invariant-loop-i g l =
     let M = g.M.ProtectedMemory in
-    ((M.meaning l.memory).bytes ≡ over (M.meaning l.initial.memory).bytes l.base (replicate (8 * l.i) 0)) × ((M.meaning l.memory).marks ≡ (M.meaning l.initial.memory).marks) × M.keeps l.initial.memory l.memory
+    let before = M.meaning l.initial.memory in
+    (M.meaning l.memory ≡ record { bytes = over before.bytes l.base (replicate (8 * l.i) 0); marks = before.marks }) × M.keeps l.initial.memory l.memory

@@ -6,10 +6,12 @@ use Rattle.machine.proofs.machine.Machine.run.Given as goal
 -- what is answered already, and then the run of the calls to come, is the whole run
 abbrev pub invariant-loop-call : goal.invariant-loop-call
 invariant-loop-call g l =
-    (vec_items l.answers ++ (runs (state_of g.M.ProtectedMemory.meaning l.self) (drop l.call-index l.calls)).0
-    ≡ (runs (state_of g.M.ProtectedMemory.meaning l.initial.self) l.calls).0)
-    × ((runs (state_of g.M.ProtectedMemory.meaning l.self) (drop l.call-index l.calls)).1
-    ≡ (runs (state_of g.M.ProtectedMemory.meaning l.initial.self) l.calls).1)
-    × (vec_len l.answers ≡ l.call-index)
-    × (length l.calls ≤ vec_capacity l.answers)
-    × (g.M.ProtectedMemory.keeps l.initial.self.memory l.self.memory)
+    let whole = runs (state_of g.M.ProtectedMemory.meaning l.initial.self) l.calls in
+    let rest = runs (state_of g.M.ProtectedMemory.meaning l.self) (drop l.call-index l.calls) in
+    record {
+      tells : vec_items l.answers ++ rest.0 ≡ whole.0;
+      leaves : rest.1 ≡ whole.1;
+      counted : vec_len l.answers ≡ l.call-index;
+      room : length l.calls ≤ vec_capacity l.answers;
+      keeps : g.M.ProtectedMemory.keeps l.initial.self.memory l.self.memory;
+    }

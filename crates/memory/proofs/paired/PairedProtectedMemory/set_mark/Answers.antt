@@ -1,23 +1,7 @@
-use Rattle.std.proofs.Common.{sym, ap, ◌∙◌}
-use Rattle.memory.specs.Protected.{answered}
 use Rattle.memory.proofs.paired.PairedProtectedMemory.set_mark.Goals as goal
 
-pub returns-in-Some : goal.returns-in-Some
-returns-in-Some g c =
-    let goes = c.in-Some.ensures in
-    let call = c.set_mark.ensures in
-    record {
-      answer = call.answer ∙ ap answered (sym goes.test);
-      after = goes.marks c.args.mark _ call.after;
-      keeps = (g.A.ProtectedMemory.keeping.same c.args.self.now.first, call.keeps, goes.leaves c.args.mark _ call.after);
-    }
+pub returns-in-Some-clause-keeps : goal.returns-in-Some-clause-keeps
+returns-in-Some-clause-keeps g c = (g.A.ProtectedMemory.keeping.same _, c.set_mark.ensures.keeps, c.in-Some.ensures.leaves _ _ c.set_mark.ensures.after)
 
-pub returns-in-None : goal.returns-in-None
-returns-in-None g c =
-    let goes = c.in-None.ensures in
-    let call = c.set_mark-in-None.ensures in
-    record {
-      answer = call.answer ∙ ap answered (sym goes.test);
-      after = goes.marks c.args.mark _ call.after;
-      keeps = (call.keeps, g.B.ProtectedMemory.keeping.same c.args.self.now.second, goes.leaves c.args.mark _ call.after);
-    }
+pub returns-in-None-clause-keeps : goal.returns-in-None-clause-keeps
+returns-in-None-clause-keeps g c = (c.set_mark-in-None.ensures.keeps, g.B.ProtectedMemory.keeping.same _, c.in-None.ensures.leaves _ _ c.set_mark-in-None.ensures.after)
