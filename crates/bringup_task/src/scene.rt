@@ -1,7 +1,6 @@
 //! The threads of the task, its secret, and the calls that both lists make.
 use machine::calls::Call;
 use memory::protected::Mark;
-use translation::registers::Context;
 
 /// The thread that becomes the ultravisor.
 pub const ULTRAVISOR: u64 = 0;
@@ -14,11 +13,6 @@ pub const HYPERVISOR: u64 = 2;
 pub const SECRET_FRAME: u64 = 5;
 
 pub const SECRET_AT: u64 = 0x5000;
-
-/// A change of context.
-pub fn enter(thread: u64, context: Context) -> Call {
-    Call::Enter { thread, context }
-}
 
 /// A load of the secret.
 pub fn load_secret(thread: u64) -> Call {

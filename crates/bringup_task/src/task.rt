@@ -1,5 +1,5 @@
 //! The task: an ultravisor makes a frame secure for a guest, a hypervisor is refused it, and the frame is released.
-use crate::scene::{GUEST, HYPERVISOR, SECRET_AT, ULTRAVISOR, enter, load_secret, mark_secret};
+use crate::scene::{GUEST, HYPERVISOR, SECRET_AT, ULTRAVISOR, load_secret, mark_secret};
 use crate::words;
 use machine::calls::Call;
 use machine::machine::Machine;
@@ -50,7 +50,10 @@ fn prepare<M: ProtectedMemory>(rt: &impl Print, machine: &mut Machine<M>) -> any
         rt,
         machine,
         "Thread 0 becomes the ultravisor",
-        enter(ULTRAVISOR, reference::ULTRAVISOR),
+        Call::Enter {
+            thread: ULTRAVISOR,
+            context: reference::ULTRAVISOR,
+        },
     )?;
     println!(rt; "It writes the tables of partition 1 and its process 1.")?;
     for (addr, value) in TABLES {
@@ -80,7 +83,10 @@ fn use_frame<M: ProtectedMemory>(rt: &impl Print, machine: &mut Machine<M>) -> a
         rt,
         machine,
         "Thread 1 becomes a secure guest of partition 1",
-        enter(GUEST, SECURE_USER),
+        Call::Enter {
+            thread: GUEST,
+            context: SECURE_USER,
+        },
     )?;
     tell_leaves(rt, machine.memory())?;
     tell_call(

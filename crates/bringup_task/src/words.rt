@@ -1,5 +1,5 @@
-//! Faults and answers in words. Functions, and no `Display`: they tell more than the types' own does, and for another one
-//! each of these types, which are the machine's, would need a wrapper.
+//! Faults and answers in words. Functions, and no `Display`: of a fault they tell more than its own does, and of an answer,
+//! a type of the machine's, one would need a wrapper.
 use machine::calls::Answer;
 use machine::refusal::{Refusal, Stop};
 use translation::fault::Fault;

@@ -5,8 +5,8 @@ use translation::fault::Fault;
 use translation::registers::Context;
 
 /// A call, with the number of the thread that makes it.
-// The number stands in each kind: a struct of a thread and a kind has every caller spell two layers for one call. Width,
-// base and index are parts of a call, as the rules name them.
+// The number stands in each kind: a struct of a thread and a kind has every caller spell two layers for one call. A struct
+// of width, base and index is no plainer: each call would spell it, and `Operand::new`, which makes one, take it apart.
 #[derive(Clone, Copy)]
 pub enum Call {
     /// The thread changes its context.

@@ -1,13 +1,13 @@
 //! The setup: the registers that all threads share, set before the machine starts.
 ghost use Rattle.std.specs.Prelude.{◌≡◌};
-ghost use Rattle.machine.specs.Setup.{no_registers, clear as is_clear, names_table, offset_of, with_ptcr, with_hrmor, with_urmor, with_facility};
+ghost use Rattle.machine.specs.Setup.{no_registers, names_table, offset_of, with_ptcr, with_hrmor, with_urmor, with_facility};
 ghost use Rattle.machine.specs.State.{state_of, started};
 
 use crate::machine::Machine;
 use crate::refusal::Refusal;
 use memory::protected::ProtectedMemory;
 use std::marker::Model;
-use translation::fields::{misplaced, table_base, table_size};
+use translation::fields::{clear, misplaced, table_base, table_size};
 use translation::registers::Registers;
 
 /// A machine that has not started: its registers, all zero at first, and the secure memory facility off.
@@ -23,13 +23,6 @@ impl Model for Setup {
     ghost Value = { Registers };
 
     ghost view = { λ setup. setup.registers };
-}
-
-// Whether no reserved bit of PTCR is 1.
-fn clear(v: u64) -> bool
-    ensures { result ≡ is_clear v }
-{
-    v >> 60 == 0 && (v >> 5) % (1 << 7) == 0
 }
 
 // Whether PTCR names a partition table.

@@ -1,11 +1,11 @@
 //! Fault records, and marks.
-use crate::checks::{Frames, answers_are};
+use crate::checks::answers_are;
 use crate::{enter, load, mark, setup, store};
 use machine::calls::{Answer, Call};
 use machine::refusal::Stop;
 use memory::flat::Flat;
 use memory::protected::Mark;
-use reference::{FIRST, ULTRAVISOR};
+use reference::{FIRST, Frames, ULTRAVISOR};
 use std::test::Fail;
 use translation::fault::{Cause, Fault, Layer, Purpose};
 use translation::registers::Context;

@@ -1,12 +1,11 @@
 //! Each refusal, first in order while later ones hold too; and that a declined call changes nothing.
-use crate::checks::Frames;
 use crate::{declined, enter, load, look_at, mark, setup, store};
 use machine::calls::Call;
 use machine::machine::Machine;
 use machine::refusal::Refusal;
 use machine::setup::Setup;
 use memory::protected::{Mark, ProtectedMemory};
-use reference::{FIRST, SECURE_USER, TABLES, ULTRAVISOR, USER, lay};
+use reference::{FIRST, Frames, SECURE_USER, TABLES, ULTRAVISOR, USER, lay};
 use std::alloc::Global;
 use std::process::Abort;
 use std::test::Fail;

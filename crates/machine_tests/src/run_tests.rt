@@ -57,7 +57,8 @@ fn reference_answers() -> [Answer; 10] {
     ]
 }
 
-// Writes the tables, and a secret at 0x5000, whose frame is secure.
+// Writes the tables, and a secret at 0x5000, whose frame is secure. The task's program has the same three lines: one
+// function for both would be public, with a definition, a contract and an edit.
 fn prepare<M: ProtectedMemory>(memory: &mut M, secret: u64) -> Result<(), Declined> {
     lay(memory, &TABLES)?;
     memory.write(0x5000, secret)?;

@@ -1,9 +1,8 @@
 //! The setup's registers, and what threads are when the machine starts.
-use crate::checks::Frames;
 use crate::setup;
 use machine::refusal::Refusal;
 use machine::setup::Setup;
-use reference::FIRST;
+use reference::{FIRST, Frames};
 use std::test::Fail;
 
 // Bits 0:3, bits 52:58, a size field above 24, and a base that is no multiple of the table's size.

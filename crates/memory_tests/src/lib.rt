@@ -32,6 +32,7 @@ pub fn put_and_get<M: ProtectedMemory>(
     memory.read(addr)
 }
 
+// The buffers stay beside each other: what these functions show is what the caller knows of each of them afterwards.
 /// Writes a doubleword into a caller's buffers, which the caller knows afterwards.
 pub fn store_in(bytes: &mut [u8], marks: &mut [u8], addr: u64, value: u64) -> Result<(), Declined>
     ensures bytes { bytes.new ≡ stored (holds (flat bytes.old marks.old) addr) bytes.old addr value }

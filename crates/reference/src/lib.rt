@@ -2,10 +2,11 @@
 //! process 1 has one such tree at 0x6000. Each tree's first leaf maps its page to real address 0.
 #![tactic(auto)]
 
-ghost use Rattle.std.specs.Prelude.{◌≡◌};
+ghost use Rattle.std.specs.Prelude.{◌≡◌, replicate};
 ghost use Rattle.reference.specs.Laid.{laid};
 ghost use Rattle.reference.specs.Leaf.{bits_text};
 
+use memory::flat::Flat;
 use memory::protected::{Declined, ProtectedMemory};
 use translation::fields::{changed, referenced};
 use translation::registers::{Context, Registers};
@@ -31,6 +32,7 @@ pub const REGISTERS: Registers = Registers {
 };
 
 /// The context of a thread when the machine starts: a hypervisor in real mode.
+// Written out beside the machine's own: a test that compared the machine with its own constant would show nothing.
 pub const FIRST: Context = Context {
     s: false,
     hv: true,
@@ -71,6 +73,37 @@ pub fn lay<M: ProtectedMemory>(memory: &mut M, words: &[(u64, u64)]) -> Result<(
         memory.write(addr, value)?;
     }
     Ok(())
+}
+
+/// The buffers of a flat memory, on the stack.
+#[derive(Drop)]
+pub struct Frames<const BYTES: usize, const MARKS: usize> {
+    pub bytes: [u8; BYTES],
+    pub marks: [u8; MARKS],
+}
+
+impl<const BYTES: usize, const MARKS: usize> Frames<BYTES, MARKS> {
+    /// Zeros, all ordinary.
+    pub fn new() -> Self
+        ensures bytes { result.bytes ≡ replicate BYTES 0 }
+        ensures marks { result.marks ≡ replicate MARKS 0 }
+    {
+        Frames {
+            bytes: [0; BYTES],
+            marks: [0; MARKS],
+        }
+    }
+
+    /// The memory over them.
+    pub fn memory(&mut self) -> Flat<'_>
+        ensures bytes { result.bytes.now ≡ self.old.bytes }
+        ensures marks { result.marks.now ≡ self.old.marks }
+    {
+        Flat {
+            bytes: self.bytes.as_mut_slice(),
+            marks: self.marks.as_mut_slice(),
+        }
+    }
 }
 
 /// A leaf's reference and change bits, in words.

@@ -133,7 +133,8 @@ fn place_and_count(answer: Result<(u64, u64, u64), Fault>) -> Result<(u64, u64),
 }
 
 // Registers, context and memory are what an access is given, and no call builds a struct of them first. One record for
-// the five facts would take the shape of the answer, and what `few` says of it, as arguments.
+// the five facts would take the shape of the answer, and what `few` says of it, as arguments. Value, real address and
+// count are a tuple, as the rules have them: a caller takes it apart at once.
 
 /// A load: the value, the real address and the count, or the fault.
 pub fn load<M: ProtectedMemory>(

@@ -1,5 +1,5 @@
 //! Bit fields of a doubleword; bit 0 is the most significant.
-ghost use Rattle.std.specs.Prelude.{◌≡◌, ◌+◌, ◌<◌, ◌≤◌};
+ghost use Rattle.std.specs.Prelude.{◌≡◌, ◌==◌, ◌&&◌, ◌+◌, ◌<◌, ◌≤◌};
 ghost use Rattle.translation.specs.Fields.{bits as bits_of, bit as is_set, table_base, table_size, next_base, next_width, tree_size, valid as is_valid, leaf as is_leaf, page_base, referenced as is_referenced, changed as is_changed, privileged as is_privileged, may_read, may_write, may_execute};
 ghost use Rattle.translation.specs.Tables.{flawed_process_table};
 
@@ -33,6 +33,13 @@ pub fn table_size(v: u64) -> u64
     ensures { result ≡ table_size v }
 {
     bits::<59, 63>(v)
+}
+
+/// Whether no reserved bit of PTCR is 1: none of bits 0:3 and 52:58.
+pub fn clear(v: u64) -> bool
+    ensures { result ≡ (bits_of v 0 3 == 0 && bits_of v 52 58 == 0) }
+{
+    bits::<0, 3>(v) == 0 && bits::<52, 58>(v) == 0
 }
 
 /// Whether no table of this size field may stand at this base: the field is above 24, or the base no multiple of the size.

@@ -1,8 +1,7 @@
 //! Four levels over four: the longest walk.
-use crate::frames::Frames;
 use crate::load_at;
 use memory::protected::{Declined, ProtectedMemory};
-use reference::USER;
+use reference::{Frames, USER};
 use std::process::Abort;
 use std::test::Fail;
 
@@ -43,7 +42,7 @@ fn deepest<M: ProtectedMemory>(rt: &impl Abort, memory: &mut M) {
 
 #[test]
 fn four_levels_over_four(rt: HostRuntime) -> Result<(), Fail> {
-    let mut frames = Frames::new();
+    let mut frames = Frames::<32768, 8>::new();
     let mut memory = frames.memory();
     lay_deep_tables(&mut memory)?;
     deepest(&rt, &mut memory);

@@ -1,9 +1,8 @@
 //! Each cause, in each layer and for each purpose that it can have.
-use crate::frames::Frames;
-use crate::{Stop, fetch_at, load_at, store_at};
+use crate::{Stop, fetch_at, load_at, store_at, with_tables};
 use memory::flat::Flat;
 use memory::protected::{Declined, Mark, ProtectedMemory};
-use reference::{TABLES, USER, lay};
+use reference::{Frames, TABLES, USER, lay};
 use std::process::Abort;
 use std::test::Fail;
 use translation::fault::{Cause, Layer, Purpose};
@@ -124,7 +123,7 @@ fn segments<M: ProtectedMemory>(rt: &impl Abort, memory: &mut M) {
 #[test]
 fn no_segment(rt: HostRuntime) -> Result<(), Fail> {
     let mut frames = Frames::new();
-    let mut memory = frames.with_tables()?;
+    let mut memory = with_tables(&mut frames)?;
     segments(&rt, &mut memory);
     Ok(())
 }
@@ -172,7 +171,7 @@ fn indices<M: ProtectedMemory>(rt: &impl Abort, memory: &mut M) {
 #[test]
 fn outside_a_table(rt: HostRuntime) -> Result<(), Fail> {
     let mut frames = Frames::new();
-    let mut memory = frames.with_tables()?;
+    let mut memory = with_tables(&mut frames)?;
     indices(&rt, &mut memory);
     Ok(())
 }
@@ -224,7 +223,7 @@ fn unsupported_processes<M: ProtectedMemory>(rt: &impl Abort, memory: &mut M) ->
 #[test]
 fn unsupported_tables(rt: HostRuntime) -> Result<(), Fail> {
     let mut frames = Frames::new();
-    let mut memory = frames.with_tables()?;
+    let mut memory = with_tables(&mut frames)?;
     unsupported_partitions(&rt, &mut memory)?;
     unsupported_processes(&rt, &mut memory)
 }
@@ -283,7 +282,7 @@ fn process_tree_stops<M: ProtectedMemory>(rt: &impl Abort, memory: &mut M) -> Re
 #[test]
 fn entries_that_stop_a_walk(rt: HostRuntime) -> Result<(), Fail> {
     let mut frames = Frames::new();
-    let mut memory = frames.with_tables()?;
+    let mut memory = with_tables(&mut frames)?;
     process_entry_stops(&rt, &mut memory)?;
     process_tree_stops(&rt, &mut memory)
 }
@@ -316,7 +315,7 @@ fn datum_stops<M: ProtectedMemory>(rt: &impl Abort, memory: &mut M) -> Result<()
 
 #[test]
 fn a_partition_stops_the_datum(rt: HostRuntime) -> Result<(), Fail> {
-    let mut frames = Frames::new();
+    let mut frames = Frames::<32768, 8>::new();
     let mut memory = frames.memory();
     lay_apart(&mut memory)?;
     datum_stops(&rt, &mut memory)
@@ -364,7 +363,7 @@ fn tree_stops<M: ProtectedMemory>(rt: &impl Abort, memory: &mut M) -> Result<(),
 
 #[test]
 fn a_partition_stops_the_process_tree(rt: HostRuntime) -> Result<(), Fail> {
-    let mut frames = Frames::new();
+    let mut frames = Frames::<32768, 8>::new();
     let mut memory = frames.memory();
     lay_tree_apart(&mut memory)?;
     tree_stops(&rt, &mut memory)
@@ -391,7 +390,7 @@ fn secure_frames<M: ProtectedMemory>(rt: &impl Abort, memory: &mut M) -> Result<
 #[test]
 fn secure_frames_stop_each_purpose(rt: HostRuntime) -> Result<(), Fail> {
     let mut frames = Frames::new();
-    let mut memory = frames.with_tables()?;
+    let mut memory = with_tables(&mut frames)?;
     secure_frames(&rt, &mut memory)
 }
 
@@ -436,7 +435,7 @@ fn beyond<M: ProtectedMemory>(rt: &impl Abort, memory: &mut M) -> Result<(), Fai
 #[test]
 fn beyond_the_memory(rt: HostRuntime) -> Result<(), Fail> {
     let mut frames = Frames::new();
-    let mut memory = frames.with_tables()?;
+    let mut memory = with_tables(&mut frames)?;
     beyond(&rt, &mut memory)
 }
 

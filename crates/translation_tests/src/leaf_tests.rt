@@ -1,11 +1,11 @@
 //! Leaves with 12, 16, 21 and 30 bits left, in a process's tree and in a partition's, and leaves with others.
-use crate::frames::Frames;
-use crate::{Stop, load_at};
+use crate::reference_tests::in_process;
+use crate::{Stop, load_at, with_tables};
 use memory::protected::{Declined, ProtectedMemory};
-use reference::USER;
+use reference::{Frames, USER};
 use std::process::Abort;
 use std::test::Fail;
-use translation::fault::{Cause, Fault, Layer, Purpose};
+use translation::fault::{Cause, Purpose};
 use translation::registers::Context;
 
 // A tree of 35 bits whose root of width 5 is at `root`: a leaf with 30 bits left; below the next entry a table of width
@@ -63,7 +63,7 @@ fn process_leaves<M: ProtectedMemory>(rt: &impl Abort, memory: &mut M) -> Result
 #[test]
 fn leaves_of_a_process(rt: HostRuntime) -> Result<(), Fail> {
     let mut frames = Frames::new();
-    let mut memory = frames.with_tables()?;
+    let mut memory = with_tables(&mut frames)?;
     process_leaves(&rt, &mut memory)
 }
 
@@ -85,24 +85,20 @@ fn partition_leaves<M: ProtectedMemory>(rt: &impl Abort, memory: &mut M) -> Resu
 #[test]
 fn leaves_of_a_partition(rt: HostRuntime) -> Result<(), Fail> {
     let mut frames = Frames::new();
-    let mut memory = frames.with_tables()?;
+    let mut memory = with_tables(&mut frames)?;
     partition_leaves(&rt, &mut memory)
 }
 
 // A form of the process's tree that is not supported.
 fn unsupported(ea: u64, depth: u64, count: u64) -> Stop {
-    Stop::Faulted(Fault {
-        cause: Cause::Unsupported,
-        layer: Layer::Process,
-        purpose: Purpose::ProcessTree,
+    in_process(
+        Cause::Unsupported,
+        Purpose::ProcessTree,
         depth,
         ea,
-        guest: 0,
-        real: 0,
-        vector: 0x300,
-        store: false,
+        0x300,
         count,
-    })
+    )
 }
 
 // The largest tree, of 52 bits, with widths 13, 9, 9 and 9; its root's leaves would have 39 left.
@@ -132,7 +128,7 @@ fn largest_tree<M: ProtectedMemory>(rt: &impl Abort, memory: &mut M) -> Result<(
 #[test]
 fn leaves_of_the_largest_tree(rt: HostRuntime) -> Result<(), Fail> {
     let mut frames = Frames::new();
-    let mut memory = frames.with_tables()?;
+    let mut memory = with_tables(&mut frames)?;
     largest_tree(&rt, &mut memory)
 }
 
@@ -172,7 +168,7 @@ fn fourth_entry<M: ProtectedMemory>(rt: &impl Abort, memory: &mut M) -> Result<(
 #[test]
 fn leaves_at_the_root_and_fourth_entries(rt: HostRuntime) -> Result<(), Fail> {
     let mut frames = Frames::new();
-    let mut memory = frames.with_tables()?;
+    let mut memory = with_tables(&mut frames)?;
     roots(&rt, &mut memory)?;
     fourth_entry(&rt, &mut memory)
 }

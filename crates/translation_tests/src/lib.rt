@@ -4,8 +4,9 @@
 ghost use Rattle.std.specs.Prelude.{◌≡◌};
 ghost use Rattle.translation_tests.specs.declared.Stop.TheVariants as stops;
 
-use memory::protected::ProtectedMemory;
-use reference::REGISTERS;
+use memory::flat::Flat;
+use memory::protected::{Declined, ProtectedMemory};
+use reference::{Frames, REGISTERS, TABLES, lay};
 use translation::access::{fetch, load, store};
 use translation::fault::Fault;
 use translation::operand::{Instruction, Operand};
@@ -16,8 +17,6 @@ use translation::widths::Unaskable;
 mod deep_tests;
 #[cfg(test)]
 mod fault_tests;
-#[cfg(test)]
-mod frames;
 #[cfg(test)]
 mod leaf_tests;
 #[cfg(test)]
@@ -46,6 +45,13 @@ impl From<Fault> for Stop {
     fn from(fault: Fault) -> Stop {
         Stop::Faulted(fault)
     }
+}
+
+/// The memory of eight frames, with the reference tables in it.
+pub fn with_tables(frames: &mut Frames<32768, 8>) -> Result<Flat<'_>, Declined> {
+    let mut memory = frames.memory();
+    lay(&mut memory, &TABLES)?;
+    Ok(memory)
 }
 
 /// A load of `width` bytes.

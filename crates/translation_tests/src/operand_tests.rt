@@ -1,8 +1,7 @@
 //! Widths, alignment and values; narrow data; the quadrants of the effective address; SF = 0.
-use crate::frames::Frames;
-use crate::{Stop, load_at, store_at};
+use crate::{Stop, load_at, store_at, with_tables};
 use memory::protected::ProtectedMemory;
-use reference::USER;
+use reference::{Frames, USER};
 use std::process::Abort;
 use std::test::Fail;
 use translation::widths::Unaskable;
@@ -30,7 +29,7 @@ fn refusals<M: ProtectedMemory>(rt: &impl Abort, memory: &mut M) {
 #[test]
 fn what_cannot_be_asked_is_refused(rt: HostRuntime) -> Result<(), Fail> {
     let mut frames = Frames::new();
-    let mut memory = frames.with_tables()?;
+    let mut memory = with_tables(&mut frames)?;
     refusals(&rt, &mut memory);
     assert_eq!(rt; memory.read(0), Ok(u64::MAX));
     Ok(())
@@ -51,7 +50,7 @@ fn narrow<M: ProtectedMemory>(rt: &impl Abort, memory: &mut M) {
 #[test]
 fn narrow_data_are_big_endian(rt: HostRuntime) -> Result<(), Fail> {
     let mut frames = Frames::new();
-    let mut memory = frames.with_tables()?;
+    let mut memory = with_tables(&mut frames)?;
     narrow(&rt, &mut memory);
     Ok(())
 }
@@ -92,6 +91,6 @@ fn quadrants<M: ProtectedMemory>(rt: &impl Abort, memory: &mut M) -> Result<(), 
 #[test]
 fn quadrants_choose_the_tables(rt: HostRuntime) -> Result<(), Fail> {
     let mut frames = Frames::new();
-    let mut memory = frames.with_tables()?;
+    let mut memory = with_tables(&mut frames)?;
     quadrants(&rt, &mut memory)
 }

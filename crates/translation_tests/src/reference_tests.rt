@@ -1,15 +1,14 @@
 //! The reference tables: each case's answer, fault and entries after it.
-use crate::frames::Frames;
-use crate::{Stop, fetch_at, load_at};
+use crate::{Stop, fetch_at, load_at, with_tables};
 use memory::protected::{Mark, ProtectedMemory};
-use reference::{FIRST, SECURE_USER, USER};
+use reference::{FIRST, Frames, SECURE_USER, USER};
 use std::process::Abort;
 use std::test::Fail;
 use translation::fault::{Cause, Fault, Layer, Purpose};
 use translation::registers::Context;
 
 // A fault of a load that stopped in its process's tables.
-fn in_process(
+pub(crate) fn in_process(
     cause: Cause,
     purpose: Purpose,
     depth: u64,
@@ -89,7 +88,7 @@ fn cases_1_to_4<M: ProtectedMemory>(rt: &impl Abort, memory: &mut M) {
 #[test]
 fn loads_of_the_reference_tables(rt: HostRuntime) -> Result<(), Fail> {
     let mut frames = Frames::new();
-    let mut memory = frames.with_tables()?;
+    let mut memory = with_tables(&mut frames)?;
     cases_1_to_4(&rt, &mut memory);
     Ok(())
 }
@@ -97,7 +96,7 @@ fn loads_of_the_reference_tables(rt: HostRuntime) -> Result<(), Fail> {
 #[test]
 fn a_fetch_needs_the_execute_right(rt: HostRuntime) -> Result<(), Fail> {
     let mut frames = Frames::new();
-    let mut memory = frames.with_tables()?;
+    let mut memory = with_tables(&mut frames)?;
     assert_eq!(rt;
         fetch_at(&mut memory, &USER, 0),
         Err(in_process(Cause::Right, Purpose::ProcessTree, 1, 0, 0x400, 6))
@@ -124,7 +123,7 @@ fn secure(purpose: Purpose, depth: u64, guest: u64, real: u64, count: u64) -> St
 #[test]
 fn a_secure_frame_stops_an_ordinary_thread(rt: HostRuntime) -> Result<(), Fail> {
     let mut frames = Frames::new();
-    let mut memory = frames.with_tables()?;
+    let mut memory = with_tables(&mut frames)?;
     memory.set_mark(0, Mark::Secure)?;
     assert_eq!(rt;
         load_at(&mut memory, &USER, 8, 0),
@@ -148,14 +147,14 @@ fn a_secure_frame_stops_an_ordinary_thread(rt: HostRuntime) -> Result<(), Fail> 
 fn a_secure_thread_goes_through(rt: HostRuntime) -> Result<(), Fail> {
     let mut frames = Frames::new();
     frames.marks = [1; 8];
-    let mut memory = frames.with_tables()?;
+    let mut memory = with_tables(&mut frames)?;
     assert_eq!(rt; load_at(&mut memory, &SECURE_USER, 8, 0), Ok((0, 0, 8)));
     Ok(())
 }
 
 #[test]
 fn a_hypervisor_in_real_mode_is_offset(rt: HostRuntime) -> Result<(), Fail> {
-    let mut frames = Frames::new();
+    let mut frames = Frames::<32768, 8>::new();
     let mut memory = frames.memory();
     memory.write(0x3000, 0x77)?;
     memory.write(0x1000, 0x88)?;

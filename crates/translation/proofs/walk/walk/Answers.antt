@@ -1,31 +1,26 @@
-use Rattle.std.proofs.Common.{◌≡◌, ◌-◌, ◌<◌, Ok, Err, refl, ap, ◌∙◌, arith, rules}
+use Rattle.std.proofs.Common.{◌≡◌, ◌-◌, ◌<◌, Err, refl, ap, ◌∙◌, arith, rules}
 use Rattle.translation.specs.declared.fault.Cause.TheVariants.{Unsupported}
 use Rattle.translation.specs.Program.{run}
 use Rattle.translation.specs.Access.{walk}
 use Rattle.translation.specs.Underway.{state_of}
-use Rattle.translation.proofs.Performing.{onward, halted, answered, checked_in, afterwards, alike}
+use Rattle.translation.proofs.Performing.{steps, checked_in, afterwards, alike}
 use Rattle.translation.proofs.Walks.{walk_turn, from_turn}
 use Rattle.translation.proofs.walk.walk.Goals as goal
 
 pub returns-in_err-word-clause-performs : goal.returns-in_err-word-clause-performs
 returns-in_err-word-clause-performs g c =
     let k = g.M.ProtectedMemory.keeping in
-    from_turn k _ _ _ _ c.loop-depth-test.true c.loop-depth.invariant.rest c.loop-depth.invariant.later
-    (rw (← c.place_of-place.ensures) (halted k c.entry.ensures.performs c.in_err-word.was (search rules)))
+    from_turn k _ _ _ _ c.loop-depth-test.true c.loop-depth.invariant.rest c.loop-depth.invariant.later (rw (← c.place_of-place.ensures) (search (rules, steps, checked_in)))
 
 pub returns-in_err-leaf-clause-performs : goal.returns-in_err-leaf-clause-performs
 returns-in_err-leaf-clause-performs g c =
     let k = g.M.ProtectedMemory.keeping in
-    from_turn k _ _ _ _ c.loop-depth-test.true c.loop-depth.invariant.rest c.loop-depth.invariant.later
-    (rw (← c.place_of-place.ensures) (onward k c.entry.ensures.performs c.in_ok-word.was
-    (halted k (checked_in k c.check.ensures c.site.ensures c.layer.ensures c.step-step.ensures) c.in_err-leaf.was (search rules))))
+    from_turn k _ _ _ _ c.loop-depth-test.true c.loop-depth.invariant.rest c.loop-depth.invariant.later (rw (← c.place_of-place.ensures) (search (rules, steps, checked_in)))
 
 pub returns-in-Found-clause-performs : goal.returns-in-Found-clause-performs
 returns-in-Found-clause-performs g c =
     let k = g.M.ProtectedMemory.keeping in
-    from_turn k _ _ _ _ c.loop-depth-test.true c.loop-depth.invariant.rest c.loop-depth.invariant.later
-    (rw (← c.place_of-place.ensures) (onward k c.entry.ensures.performs c.in_ok-word.was
-    (onward k (checked_in k c.check.ensures c.site.ensures c.layer.ensures c.step-step.ensures) (c.in_ok-leaf.was ∙ ap Ok c.in-Found.is) (answered k))))
+    from_turn k _ _ _ _ c.loop-depth-test.true c.loop-depth.invariant.rest c.loop-depth.invariant.later (rw (← c.place_of-place.ensures) (search (rules, steps, checked_in)))
 
 pub loop-depth-preserved : goal.loop-depth-preserved
 loop-depth-preserved g c =
