@@ -42,8 +42,11 @@ as_octets_over bs at v = map_over bs at (octets 8 v) ∙ ap (over (as_octets bs)
 
 -- at a doubleword of a flat memory
 module _ (bs ms : List ℕ) (addr : ℕ) (h : holds (flat bs ms) addr ≡ true) where
-  room : addr + 8 ≤ size_of (flat bs ms)
+  pub room : addr + 8 ≤ size_of (flat bs ms)
   room = lies_within addr (size_of (flat bs ms)) (let s = flat_size bs ms in omega arith) h
+
+  pub bytes_inside : addr + 8 ≤ length bs
+  bytes_inside = let r = room in let s = flat_size bs ms in omega arith
 
   pub flat_number : Octets bs → number_at 8 (flat bs ms).bytes addr ≡ number_at 8 bs addr
   flat_number o =
@@ -91,7 +94,7 @@ module _ (bs ms : List ℕ) (frame : ℕ) (h : has_frame (flat bs ms) frame ≡ 
   frame_below : frame < covered (length bs) (length ms)
   frame_below = let l = ltb-true frame (frames_of (flat bs ms)) h in let n = flat_frames bs ms in omega arith
 
-  frame_inside : frame < length ms
+  pub frame_inside : frame < length ms
   frame_inside = let l = frame_below in omega arith
 
   pub flat_mark : get_or (flat bs ms).marks frame Ordinary ≡ mark_of (get_or ms frame 0)

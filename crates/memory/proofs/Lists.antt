@@ -4,7 +4,7 @@ use native.Mathlib.Nat.{pow-succ', one-le-pow}
 use lib.Arith.{mod-mul}
 use lib.ListN.{length-replicate}
 use lib.Seq.{drop-append-add}
-use Rattle.std.proofs.lemmas.List.{ext_get_or, get_or-take, get_or-drop, drop-take, replicate-append-replicate, take-take, take_rest, take-append-le, drop-append-le, length-take-le}
+use Rattle.std.proofs.lemmas.List.{ext_get_or, get_or-take, get_or-drop, drop-take, replicate-append-replicate, take-take, take_rest, take-append-le, drop-append-le, drop_more, length-take-le}
 use Rattle.std.proofs.lemmas.Nat.{be_bytes_8}
 use Rattle.std.proofs.lemmas.Bool.{cases_lt}
 use Rattle.std.specs.Array.{IsFirstChunk}
@@ -175,6 +175,30 @@ number_there w bs at v h small =
 pub number_elsewhere : (w : ℕ) (bs : List ℕ) (at : ℕ) (vs : List ℕ) (k : ℕ) → (k + w ≤ at) ⊎ (at + length vs ≤ k) → number_at w (over bs at vs) k ≡ number_at w bs k
 number_elsewhere w bs at vs k apart =
     number_same w (over bs at vs) bs k (length_over bs at vs) (λ i l. over_other bs at vs (k + i) (elim apart [ inl p ↦ inl (omega arith) | inr p ↦ inr (omega arith) ]))
+
+-- the first of the bytes from `at` on, and those from the next on
+part_next : (w : ℕ) (bs : List ℕ) (at on : ℕ) → on ≡ at + 1 → at < length bs → take (suc w) (drop at bs) ≡ get_or bs at 0 ∷ take w (drop on bs)
+part_next w bs at on e h = ap (take (suc w)) (drop_more bs at 0 h) ∙ ap (λ i. get_or bs at 0 ∷ take w (drop i bs)) (sym e)
+
+-- eight bytes, one by one
+pub part_eight : (bs : List ℕ) (at : ℕ) → at + 8 ≤ length bs
+    → take 8 (drop at bs) ≡ get_or bs at 0 ∷ get_or bs (at + 1) 0 ∷ get_or bs (at + 2) 0 ∷ get_or bs (at + 3) 0 ∷ get_or bs (at + 4) 0 ∷ get_or bs (at + 5) 0 ∷ get_or bs (at + 6) 0 ∷ get_or bs (at + 7) 0 ∷ []
+part_eight bs at h =
+    let p0 = part_next 7 bs at (at + 1) refl (omega arith) in
+    let p1 = part_next 6 bs (at + 1) (at + 2) (omega arith) (omega arith) in
+    let p2 = part_next 5 bs (at + 2) (at + 3) (omega arith) (omega arith) in
+    let p3 = part_next 4 bs (at + 3) (at + 4) (omega arith) (omega arith) in
+    let p4 = part_next 3 bs (at + 4) (at + 5) (omega arith) (omega arith) in
+    let p5 = part_next 2 bs (at + 5) (at + 6) (omega arith) (omega arith) in
+    let p6 = part_next 1 bs (at + 6) (at + 7) (omega arith) (omega arith) in
+    let p7 = part_next 0 bs (at + 7) (at + 8) (omega arith) (omega arith) in
+    rw (p0, p1, p2, p3, p4, p5, p6, p7)
+
+-- what eight bytes spell
+pub spell_eight : (a b c d e f g h : ℕ) → a * 72057594037927936 + b * 281474976710656 + c * 1099511627776 + d * 4294967296 + e * 16777216 + f * 65536 + g * 256 + h
+    ≡ spell 0 (a ∷ b ∷ c ∷ d ∷ e ∷ f ∷ g ∷ h ∷ [])
+unfolding spell
+spell_eight a b c d e f g h = omega arith
 
 -- a doubleword's bytes as the numbers' own method gives them
 pub eight_octets : (v : ℕ) → (v / 72057594037927936 % 256) ∷ (v / 281474976710656 % 256) ∷ (v / 1099511627776 % 256) ∷ (v / 4294967296 % 256)

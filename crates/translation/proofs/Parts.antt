@@ -1,11 +1,11 @@
 -- Parts of a doubleword: what taking one out and putting another in keeps below 2 ^ 64.
-use Rattle.std.proofs.Common.{◌≡◌, ℕ, ◌+◌, ◌-◌, ◌*◌, ◌/◌, ◌%◌, ◌^◌, ◌<◌, ◌≤◌, sym, ap, mul-le-mul_right, mod-eq_of_lt, div-one, arith}
+use Rattle.std.proofs.Common.{◌≡◌, ℕ, ◌+◌, ◌-◌, ◌*◌, ◌/◌, ◌%◌, ◌^◌, ◌<◌, ◌≤◌, sym, refl, ap, mul-le-mul_right, mod-eq_of_lt, div-one, arith}
 use native.Mathlib.Nat.{mod-le}
 use lib.Arith.{digits_lt}
 use Rattle.std.proofs.lemmas.Nat.{pow_pos, pow-add, mod-pow-add, shr_split, mod_below, div_below, one_shl}
 use Rattle.translation.specs.Widths.{bytes_of, above, part, merged}
 use Rattle.translation.specs.declared.widths.Width.{Width}
-use Rattle.translation.specs.declared.widths.Width.TheVariants.{Doubleword}
+use Rattle.translation.specs.declared.widths.Width.TheVariants.{Byte, Halfword, Word, Doubleword}
 
 -- all of a doubleword is the doubleword
 whole_at : (v k : ℕ) → k ≡ 0 → v < 2 ^ 64 → v ≡ v / 2 ^ k % 2 ^ 64
@@ -37,6 +37,19 @@ put_fits v x j k h p q =
     let low = low_fits j k x (v % 2 ^ k) q (mod_below v (2 ^ k) (pow_pos k)) in
     let all = all_fits (j + k) v (x * 2 ^ k + v % 2 ^ k) h p low in
     omega (arith, mod-pow-add v j k, shr_split v (j + k))
+
+-- a width is at least a byte, and below eight but for a doubleword
+pub some_bytes : (w : Width) → 0 < bytes_of w
+some_bytes Byte = omega arith
+some_bytes Halfword = omega arith
+some_bytes Word = omega arith
+some_bytes Doubleword = omega arith
+
+pub few_bytes : (w : Width) → (w ≡ Doubleword → ⊥) → bytes_of w < 8
+few_bytes Byte n = omega arith
+few_bytes Halfword n = omega arith
+few_bytes Word n = omega arith
+few_bytes Doubleword n = absurd (n refl)
 
 -- the code's part, of a bytes, at a shift s
 pub part_is : (w o v a s : ℕ) → a ≡ w → s ≡ above w o → w < 8 → v / 2 ^ s % ((1 * 2 ^ (8 * a)) % 2 ^ 64) ≡ part w o v

@@ -1,5 +1,5 @@
 -- How programs are performed one after another. Assumes nothing.
-use Rattle.std.proofs.Common.{◌≡◌, ℕ, Ok, Err, Option, Result, sym, refl, ap, ◌∙◌}
+use Rattle.std.proofs.Common.{◌≡◌, ℕ, Ok, Err, Option, Result, sym, refl, ap, ◌∙◌, subst}
 use Rattle.memory.specs.Protected.{Meaning}
 use Rattle.memory.specs.Soundness.{ReflexiveTransitive}
 use Rattle.translation.specs.declared.fault.Kind.{Kind}
@@ -10,7 +10,7 @@ use Rattle.translation.specs.declared.fault.Site.{Site}
 use Rattle.translation.specs.declared.tables.Leaf.{Leaf}
 use Rattle.translation.specs.declared.reach.Access.{Access}
 use Rattle.translation.specs.Fault.{faulted}
-use Rattle.translation.specs.Program.{Program, ret, check, reach, settle, amend, bind, state, Outcome, reached, settled, amended, then_do, run}
+use Rattle.translation.specs.Program.{Program, ret, check, reach, table_word, settle, amend, bind, state, Outcome, reached, settled, amended, then_do, run}
 use Rattle.translation.specs.Underway.{state_of, Later, Performs, LeavesMemory}
 
 module _ {M : Type 0} {keeps : M → M → Type 0} (keeping : ReflexiveTransitive keeps) where
@@ -28,6 +28,11 @@ module _ {M : Type 0} {meaning : M → Meaning} {keeps : M → M → Type 0} whe
   goes_on {A} {B} {a} {b} {p} f {r} {x} h e =
       let k : Ok x ≡ (run a.setting (state_of meaning a) p).0 = sym e ∙ h.answer in
       λ i. then_do (k i, h.after i) (λ y st. run (h.later.setting i) st (f y))
+
+  -- a table's doubleword at a site, by whatever that is equal to
+  pub tabled : {a b : Access M} {at site : Site} {x : ℕ} {r : Result ℕ Fault} → Performs meaning keeps a (table_word at x) r b → at ≡ site
+      → Performs meaning keeps a (table_word site x) r b
+  tabled {a} {b} {x = x} {r} h e = subst (λ (w : Site). Performs meaning keeps a (table_word w x) r b) e h
 
 module _ {M : Type 0} {meaning : M → Meaning} {keeps : M → M → Type 0} (keeping : ReflexiveTransitive keeps) where
   -- what answers a value goes on with it
