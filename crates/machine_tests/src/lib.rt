@@ -4,7 +4,7 @@
 
 use machine::calls::{Answer, Call};
 use machine::machine::Machine;
-use machine::refusal::Refusal;
+use machine::refusal::{Refusal, Stop};
 use machine::setup::Setup;
 use memory::protected::{Declined, Mark, ProtectedMemory};
 use reference::REGISTERS;
@@ -61,11 +61,12 @@ pub fn look_at<M: ProtectedMemory>(
 }
 
 /// What a call answers that is declined.
+// Written out, and no `into`: an expected value is not taken from the machine's own conversion.
 pub fn declined(call: &Call, refusal: Refusal) -> Answer {
     match call {
         Call::Enter { .. } | Call::Mark { .. } => Answer::Done(Err(refusal)),
-        Call::Load { .. } | Call::Fetch { .. } => Answer::Loaded(Err(refusal.into())),
-        Call::Store { .. } => Answer::Stored(Err(refusal.into())),
+        Call::Load { .. } | Call::Fetch { .. } => Answer::Loaded(Err(Stop::Declined(refusal))),
+        Call::Store { .. } => Answer::Stored(Err(Stop::Declined(refusal))),
         Call::Report { .. } => Answer::Reported(Err(refusal)),
     }
 }
