@@ -4,6 +4,7 @@ ghost use Rattle.translation.specs.declared.widths.Unaskable.TheVariants.{Misali
 ghost use Rattle.translation.specs.Widths.{bytes_of, asked, fitting, fetched};
 
 use crate::widths::{Unaskable, Width};
+use std::fmt;
 
 /// An address that is a multiple of a width.
 #[derive(Debug, Clone, Copy)]
@@ -15,11 +16,22 @@ pub struct Operand {
 }
 
 /// An operand, and a value that fits its width.
-#[derive(Debug, Clone, Copy)]
+#[derive(Clone, Copy)]
 pub struct Stored {
     pub operand: Operand,
     pub value: u64,
     ghost fits: { value < 2 ^ (8 * bytes_of operand.width) },
+}
+
+// Written out, and no derive: it shows address, width and value side by side.
+impl fmt::Debug for Stored {
+    fn fmt<W: fmt::Write>(&self, f: &mut fmt::Formatter<W>) -> fmt::Result {
+        f.debug_struct("Stored")
+            .field("address", &self.operand.address)
+            .field("width", &self.operand.width)
+            .field("value", &self.value)
+            .finish()
+    }
 }
 
 /// An instruction's address, a multiple of 4.
