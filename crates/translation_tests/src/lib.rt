@@ -48,7 +48,7 @@ impl From<Fault> for Stop {
 }
 
 /// The memory of eight frames, with the reference tables in it.
-pub fn with_tables(frames: &mut Frames<32768, 8>) -> Result<Flat<'_>, Declined> {
+pub(crate) fn with_tables(frames: &mut Frames<32768, 8>) -> Result<Flat<'_>, Declined> {
     let mut memory = frames.memory();
     lay(&mut memory, &TABLES)?;
     Ok(memory)
