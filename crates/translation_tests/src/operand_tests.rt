@@ -4,6 +4,7 @@ use memory::protected::ProtectedMemory;
 use reference::{Frames, USER};
 use std::process::Abort;
 use std::test::Fail;
+use translation::operand::Operand;
 use translation::widths::Unaskable;
 
 // What cannot be asked is refused by number, and nothing happens.
@@ -93,4 +94,18 @@ fn quadrants_choose_the_tables(rt: HostRuntime) -> Result<(), Fail> {
     let mut frames = Frames::new();
     let mut memory = with_tables(&mut frames)?;
     quadrants(&rt, &mut memory)
+}
+
+#[test]
+fn an_operand_with_a_value_is_shown_field_by_field(rt: HostRuntime) -> Result<(), Fail> {
+    let stored = Operand::new(8, 8, 0)?.with_value(5)?;
+    let shown = format!(in rt.alloc(); "{stored:?}")?;
+    assert_eq!(rt;
+        shown.as_str(),
+        "Stored { address: 8, width: Doubleword, value: 5 }"
+    );
+    let pretty = format!(in rt.alloc(); "{stored:#?}")?;
+    let lines = "Stored {\n    address: 8,\n    width: Doubleword,\n    value: 5,\n}";
+    assert_eq!(rt; pretty.as_str(), lines);
+    Ok(())
 }
